@@ -1,0 +1,4 @@
+pub mod Accepted
+pub mod Lookup
+pub mod ValueOrder
+pub mod Values

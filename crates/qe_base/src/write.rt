@@ -1,0 +1,71 @@
+//! Operations, and the nested writes that they carry.
+use crate::query::{Filter, Pick, Unique};
+use crate::value::{TableId, Value};
+use sqlite_items::Items;
+
+/// What an update does to a column.
+#[derive(Drop)]
+pub enum Edit {
+    Set(Value),
+    Add(i64),
+    Subtract(i64),
+    Multiply(i64),
+    Divide(i64),
+}
+
+/// A row to be made: the values that are given, by their columns, and the steps on its relations.
+#[cycle(write)]
+#[derive(Drop)]
+pub struct Create {
+    pub values: Items<(u16, Value)>,
+    pub nested: Items<Nested>,
+}
+
+/// A row to be changed: the edits, by their columns, and the steps on its relations.
+#[cycle(write)]
+#[derive(Drop)]
+pub struct Update {
+    pub edits: Items<(u16, Edit)>,
+    pub nested: Items<Nested>,
+}
+
+/// The steps on the relation of one field.
+#[cycle(write)]
+#[derive(Drop)]
+pub struct Nested {
+    pub field: u16,
+    pub steps: Items<Step>,
+}
+
+/// A nested write.
+#[cycle(write)]
+#[derive(Drop)]
+pub enum Step {
+    Set(Items<Unique>),
+    Disconnect(Option<Unique>),
+    Delete(Option<Unique>),
+    DeleteMany(Filter),
+    Update(Option<Unique>, Update),
+    UpdateMany(Filter, Update),
+    Upsert(Option<Unique>, Create, Update),
+    Connect(Unique),
+    ConnectOrCreate(Unique, Create),
+    Create(Create),
+    CreateMany(Items<Create>),
+}
+
+/// An operation on one table.
+#[derive(Drop)]
+pub enum Op {
+    FindUnique {
+        table: TableId,
+        at: Unique,
+        strict: bool,
+        pick: Pick,
+    },
+    Create {
+        table: TableId,
+        tree: Create,
+        pick: Pick,
+    },
+}
