@@ -1,5 +1,5 @@
 //! Schemas: tables with their columns, keys and fields, relations, link tables and enums.
-ghost use Rattle.std.specs.Prelude.{◌≡◌, ◌<◌, ◌^◌, length, IfOk, slice_get, true};
+ghost use Rattle.std.specs.Prelude.{◌≡◌, ◌<◌, length, IfOk, IfSome, slice_get, true, position, bytes_eq};
 ghost use Rattle.std.specs.Option.{option_copied};
 ghost use Rattle.qe_base.specs.Accepted.{is_accepted};
 ghost use Rattle.qe_base.specs.Lookup.{table_named, link_of};
@@ -99,6 +99,15 @@ pub struct Choice {
     pub members: Items<Text>,
 }
 
+fn position_of(tables: &[Table], name: &str) -> Option<usize>
+    ensures at { result ≡ position (λ table. bytes_eq table.name name.now) tables.now }
+    ensures within { IfSome result (λ at. at < length tables.now) }
+{
+    tables
+        .iter()
+        .position(|table| table.name.is_same(name))
+}
+
 /// An accepted schema.
 #[derive(Drop)]
 pub struct Schema {
@@ -128,12 +137,10 @@ impl Schema {
     pub fn find(&self, name: &str) -> Option<TableId>
         ensures { result ≡ table_named name.now self.now.tables }
     {
-        let at = self
-            .tables
-            .as_slice()
-            .iter()
-            .position(|table| table.name.is_same(name))?;
-        Some(TableId(at as u16))
+        match position_of(self.tables.as_slice(), name) {
+            Some(at) => Some(TableId(at as u16)),
+            None => None,
+        }
     }
 
     /// How many relations there are.

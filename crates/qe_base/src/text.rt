@@ -1,5 +1,5 @@
 //! Texts and bytes that contracts see as lists, and want of memory.
-ghost use Rattle.std.specs.Prelude.{◌≡◌, ◌↔◌, IfOk, IsTrue, IsUtf8, string_bytes};
+ghost use Rattle.std.specs.Prelude.{◌≡◌, ◌↔◌, IfOk, IsTrue, IsUtf8, bytes_eq, string_bytes};
 
 use std::alloc::{AllocError, AllocFailed, Global};
 use std::marker::Model;
@@ -66,7 +66,8 @@ impl Text {
     }
 
     pub fn is_same(&self, other: &str) -> bool
-        ensures { IsTrue result ↔ (self.now ≡ other.now) }
+        ensures same { result ≡ bytes_eq self.now other.now }
+        ensures equal { IsTrue result ↔ (self.now ≡ other.now) }
     {
         self.as_str() == other
     }
