@@ -3,6 +3,7 @@
 #![tactic(auto)]
 
 mod answer;
+mod outside;
 mod query;
 mod schema;
 mod schema_copy;
@@ -11,6 +12,7 @@ mod value;
 mod write;
 
 pub use answer::{Answer, OpFault, Outside, Rule, Why};
+pub use outside::{Failed, FetchFault, Host, Sink, Source};
 pub use query::{
     Child, Filter, Like, Look, OrderBy, OrderEnd, Page, Pick, Quant, Test, Unique,
 };
