@@ -25,15 +25,9 @@ pub enum Reply {
     Hello,
     Answer(Answer),
     /// The operation was refused; in a batch, the one of that index.
-    Refused {
-        index: Option<u64>,
-        fault: OpFault,
-    },
+    Refused { index: Option<u64>, fault: OpFault },
     /// The entry that the caller says to have seen isn't before this place.
-    Unseen {
-        asked: u64,
-        place: u64,
-    },
+    Unseen { asked: u64, place: u64 },
     Memory,
 }
 
