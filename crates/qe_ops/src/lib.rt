@@ -1,0 +1,6 @@
+//! Operations over the tables in memory.
+#![tactic(auto)]
+
+mod fill;
+mod run;
+mod shape;
