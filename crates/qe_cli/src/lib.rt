@@ -1,0 +1,4 @@
+//! The commands of the engine.
+#![tactic(auto)]
+
+mod host;
