@@ -1,13 +1,9 @@
-// A library with one function.
+//! What lines ask for: a line's JSON, read as an operation.
 #![tactic(auto)]
 
-ghost use Rattle.std.specs.Prelude.{◌≡◌};
-ghost use Rattle.qe_request.specs.Echo.{echo_of};
+mod lines;
+mod members;
+mod operations;
+mod scalars;
 
-// The `ensures` clause is the contract: what `echo` returns is `echo_of` of its argument, a definition
-// in `specs/Echo.antt`, which a caller's clause can cite too.
-pub fn echo(x: usize) -> usize
-    ensures { result ≡ echo_of x }
-{
-    x
-}
+pub use lines::{LineFault, read_line};
