@@ -4,3 +4,5 @@
 mod fill;
 mod run;
 mod shape;
+
+pub use run::run_op;
