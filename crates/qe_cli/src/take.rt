@@ -1,5 +1,5 @@
 //! Taking the lines of a stream.
-ghost use Rattle.std.specs.Prelude.{◌≡◌, ◌++◌, List, ℕ, OnOk, Err, false, IsErrOf};
+ghost use Rattle.std.specs.Prelude.{◌≡◌, ◌++◌, ◌∷◌, OnOk, IfErr, Err, false, IsErrOf, MatchOption};
 ghost use Rattle.qe_base.specs.Causes.{HasCause};
 ghost use Rattle.qe_exchange.specs.Lines.{is_blank};
 ghost use Rattle.qe_ops.specs.Performs.{tables_of, IsKeptFor};
@@ -10,6 +10,7 @@ ghost use Rattle.qe_cli.specs.Run.{Answers, LineTaken, LineStopped, has_newline}
 use crate::Stop;
 use crate::answer::answer;
 use crate::host::write_all;
+use memchr::memchr;
 use qe_base::{Host, Schema};
 use qe_mem::MemConnector;
 use std::alloc::Global;
@@ -50,5 +51,19 @@ pub fn take_line<H: Host>(
             Err(_) => Err(Stop::Write),
             Ok(()) => Ok(()),
         },
+    }
+}
+
+/// The bytes before the first newline, and those after it.
+fn split_line(bytes: &[u8]) -> Option<(&[u8], &[u8])>
+    ensures { MatchOption result (has_newline bytes.now ≡ false) (λ parts. (bytes.now ≡ parts.0.now ++ 10 ∷ parts.1.now) × (has_newline parts.0.now ≡ false)) }
+{
+    match memchr(b'\n', bytes) {
+        Some(at) => {
+            let (line, newline) = bytes.split_at(at);
+            let (_, later) = newline.split_at(1);
+            Some((line, later))
+        }
+        None => None,
     }
 }
