@@ -9,11 +9,11 @@ use Rattle.qe_exchange.specs.Lines.{cut, ahead, is_blank, lines_of}
 use Rattle.qe_forms.specs.Request.{asked_of}
 use Rattle.qe_cli.specs.Run.{Answers, Runs, OutcomeLeads, OutcomesLead, has_newline}
 
-or_left : (a b : Bool) → a || b ≡ false → a ≡ false
+pub or_left : (a b : Bool) → a || b ≡ false → a ≡ false
 or_left true b is = is
 or_left false b is = refl
 
-or_right : (a b : Bool) → a || b ≡ false → b ≡ false
+pub or_right : (a b : Bool) → a || b ≡ false → b ≡ false
 or_right true b is = absurd (true≢false is)
 or_right false b is = is
 

@@ -30,9 +30,8 @@ shorter part rest piece whole some = subst (λ p. length part < length p) whole 
 
 -- where the next write fails, not all was taken
 pub part_taken : (piece rest : List ℕ) (before now : Option (List ℕ)) → IsWriting piece rest before now → 0 < length rest → AppendsPart before now piece
-part_taken piece rest before None writing some = tt
-part_taken piece rest None (Some all) writing some = absurd writing.taken
-part_taken piece rest (Some old) (Some all) writing some = (length writing.part, shorter writing.part rest piece writing.whole some, writing.taken ∙ ap (λ p. old ++ p) (sym (written_part writing.part rest piece writing.whole)))
+part_taken piece rest before now writing some =
+    (length writing.part, shorter writing.part rest piece writing.whole some, subst (Appends before now) (sym (written_part writing.part rest piece writing.whole)) writing.taken)
 
 -- the next part is taken
 pub writing_more : (piece rest : List ℕ) (before now next : Option (List ℕ)) (count : ℕ) → IsWriting piece rest before now → Appends now next (take count rest) → IsWriting piece (drop count rest) before next

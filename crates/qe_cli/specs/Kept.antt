@@ -7,4 +7,4 @@ Appends before after bytes = IfSome after (λ all. IsSomeAnd before (λ old. all
 
 -- the sink took some of these bytes more, from their first on, and not all of them
 abbrev pub AppendsPart : Option (List ℕ) → Option (List ℕ) → List ℕ → Type 0
-AppendsPart before after bytes = IfSome after (λ all. IsSomeAnd before (λ old. (count : ℕ) × (count < length bytes) × (all ≡ old ++ take count bytes)))
+AppendsPart before after bytes = (count : ℕ) × (count < length bytes) × Appends before after (take count bytes)

@@ -43,12 +43,7 @@ fn put_line(out: &mut Vec<u8>, text: &[u8]) -> Result<(), Memory>
 }
 
 /// Puts a reply's text and a newline into `out`.
-fn put_reply(
-    alloc: Global,
-    schema: &Schema,
-    reply: &Reply,
-    out: &mut Vec<u8>,
-) -> Result<(), Memory>
+fn put_reply(alloc: Global, schema: &Schema, reply: &Reply, out: &mut Vec<u8>) -> Result<(), Memory>
     ensures { OnOk result (out.new.items ≡ text_of schema.now reply.now ++ 10 ∷ []) }
 {
     let text = write_reply(alloc, schema, reply)?;

@@ -67,3 +67,46 @@ fn split_line(bytes: &[u8]) -> Option<(&[u8], &[u8])>
         None => None,
     }
 }
+
+/// Puts bytes at the end of what is pending.
+fn append(pending: &mut Vec<u8>, bytes: &[u8]) -> Result<(), Stop>
+    ensures ok { OnOk result (pending.new.items ≡ pending.old.items ++ bytes.now) }
+    ensures err { IfErr result (λ why. why ≡ Stop.Memory) }
+{
+    match pending.extend_from_slice(bytes) {
+        Ok(()) => Ok(()),
+        Err(_) => Err(Stop::Memory),
+    }
+}
+
+/// Takes the whole lines of some bytes that come after those that are pending, and leaves what
+/// stands after the last newline pending.
+pub fn take_lines<H: Host>(
+    alloc: Global,
+    schema: &Schema,
+    tables: &mut MemConnector,
+    pending: &mut Vec<u8>,
+    bytes: &[u8],
+    out: &mut Vec<u8>,
+    host: &mut H,
+) -> Result<(), Stop>
+    requires one_line { has_newline pending.old.items ≡ false }
+    requires kept { IsKeptFor schema.now tables.old }
+    ensures ok { OnOk result (Takes schema.now (λ later. pending.old.items ++ (bytes.now ++ later)) pending.new.items (tables_of tables.old) (tables_of tables.new) (H.taken host.old) (H.taken host.new)) }
+    ensures one_line { OnOk result (has_newline pending.new.items ≡ false) }
+    ensures stops { IfErr result (λ why. Stops why schema.now (λ later. pending.old.items ++ (bytes.now ++ later)) (tables_of tables.old) (H.taken host.old) (H.taken host.new)) }
+    ensures cause { HasCause (H.write_may_fail host.old) (H.write_faults host.old) (H.write_faults host.new) (IsErrOf result Stop.Write) }
+    ensures sure { H.write_may_fail host.old ≡ false → H.write_may_fail host.new ≡ false }
+    ensures input { (H.left host.new ≡ H.left host.old) × (H.read_faults host.new ≡ H.read_faults host.old) × (H.read_may_fail host.new ≡ H.read_may_fail host.old) }
+    ensures files { (H.files host.new ≡ H.files host.old) × (H.fetch_faults host.new ≡ H.fetch_faults host.old) × (H.is_steady host.new ≡ H.is_steady host.old) }
+    ensures kept { IsKeptFor schema.now tables.new }
+{
+    let mut rest = bytes;
+    'lines: while let Some((line, later)) = split_line(rest) {
+        append(pending, line)?;
+        take_line(alloc, schema, tables, pending.as_slice(), out, host)?;
+        pending.clear();
+        rest = later;
+    }
+    append(pending, rest)
+}
