@@ -12,7 +12,7 @@ mod value;
 mod write;
 
 pub use answer::{Answer, OpFault, Outside, Rule, Why};
-pub use outside::{Failed, FetchFault, Host, Sink, Source};
+pub use outside::{Failed, FetchFault, Host, HostCall, MemHost, MemSink, MemSource, Sink, Source};
 pub use query::{
     Child, Filter, Like, Look, OrderBy, OrderEnd, Page, Pick, Quant, Test, Unique,
 };

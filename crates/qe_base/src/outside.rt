@@ -5,6 +5,15 @@
 ghost use Rattle.std.specs.Prelude.{◌≡◌, ℕ, List, Option, Bool, true, false, IsErr, IsErrOf};
 ghost use Rattle.qe_base.specs.Causes.{HasCause};
 
+mod calls;
+mod mem_host;
+mod mem_sink;
+mod mem_source;
+
+pub use mem_host::{HostCall, MemHost};
+pub use mem_sink::MemSink;
+pub use mem_source::MemSource;
+
 use crate::text::Bytes;
 
 /// A call of something outside failed.

@@ -1,0 +1,55 @@
+ghost use Rattle.std.specs.Prelude.{◌≡◌, ◌↔◌, IfOk, IsErr, true, false};
+ghost use Rattle.qe_base.specs.Causes.{HasCause};
+
+use crate::outside::Failed;
+use crate::text::Memory;
+use sqlite_items::Items;
+use std::alloc::Global;
+
+/// The calls of one kind: the numbers of those that are to fail, counted from 1, how many were
+/// made, and how often one failed.
+#[derive(Drop)]
+pub struct Calls {
+    failing: Items<u64>,
+    made: u64,
+    faults: u64,
+}
+
+impl Calls {
+    ghost use Rattle.qe_base.specs.Calls.{no_calls, fails_next, may_fail, after_call, with_fault};
+
+    pub fn new(failing: Items<u64>) -> Calls
+        ensures { result ≡ no_calls failing }
+    {
+        Calls {
+            failing,
+            made: 0,
+            faults: 0,
+        }
+    }
+
+    #[tactic(auto, using(crate::proofs::LaterCalls::listed_is_later, crate::proofs::LaterCalls::none_later))]
+    /// Counts a call, which fails where it is listed.
+    pub fn begin(&mut self) -> Result<(), Failed>
+        ensures listed { IsErr result ↔ (fails_next self.old ≡ true) }
+        ensures after { self.new ≡ after_call self.old }
+        ensures cause { HasCause (may_fail self.old) self.old.faults self.new.faults (IsErr result) }
+        ensures sure { may_fail self.old ≡ false → may_fail self.new ≡ false }
+    {
+        if self.made == u64::MAX {
+            return Ok(());
+        }
+        self.made += 1;
+        if self.failing.as_slice().contains(&self.made) {
+            self.count_fault();
+            return Err(Failed);
+        }
+        Ok(())
+    }
+
+    pub fn count_fault(&mut self)
+        ensures { self.new ≡ with_fault self.old }
+    {
+        self.faults = self.faults.saturating_add(1);
+    }
+}
