@@ -1,6 +1,7 @@
 ghost use Rattle.std.specs.Prelude.{◌≡◌, ◌+◌, ◌↔◌, ◌&&◌, Some, IfOk, IfSome, IsErr, IsErrOf, true, false, take};
 ghost use Rattle.std.specs.Option.{option_copied};
 ghost use Rattle.qe_base.specs.Causes.{HasCause};
+ghost use Rattle.qe_base.specs.MemHost.{fetches_of};
 ghost use Rattle.qe_base.specs.Outside.{Files, Fetches, file_named};
 
 use crate::outside::calls::Calls;
@@ -21,12 +22,10 @@ pub enum HostCall {
 fn content_of<'a>(files: &'a [(Text, Bytes)], name: &str) -> Option<&'a Bytes>
     ensures { option_copied result ≡ file_named name.now files.now }
 {
-    for file in files {
-        if file.0.is_same(name) {
-            return Some(&file.1);
-        }
+    match files.iter().find(|file| file.0.is_same(name)) {
+        Some(file) => Some(&file.1),
+        None => None,
     }
-    None
 }
 
 /// The first `most + 1` bytes, or all where there are fewer.
@@ -66,7 +65,7 @@ impl MemHost {
     ghost use Rattle.qe_base.specs.Calls.{no_calls, is_steady, is_empty};
     ghost use Rattle.qe_base.specs.MemSource.{source_reads};
     ghost use Rattle.qe_base.specs.MemSink.{sink_taken, sink_writes};
-    ghost use Rattle.qe_base.specs.MemHost.{fetches_of, host_files, host_source, host_sink, host_fetches, host_faults, host_is_steady};
+    ghost use Rattle.qe_base.specs.MemHost.{host_files, host_source, host_sink, host_fetches, host_faults, host_is_steady};
 
     /// A host of these files, of which the first of each name counts. The numbers of the calls that
     /// are to fail count from 1 within each kind.
