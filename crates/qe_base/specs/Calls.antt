@@ -1,5 +1,5 @@
 -- Calls of one kind, of which some are to fail.
-use Rattle.std.specs.Prelude.{ℕ, ◌+◌, ◌-◌, ◌^◌, min, Bool, true, false, ◌&&◌, ◌==◌, nat_lt, List, [], ◌∷◌, if◌then◌else◌}
+use Rattle.std.specs.Prelude.{◌≡◌, ◌↔◌, ℕ, ◌+◌, ◌-◌, ◌^◌, min, Bool, true, false, ◌&&◌, ◌==◌, nat_lt, List, [], ◌∷◌, if◌then◌else◌}
 use Rattle.std.specs.List.{list_any}
 use Rattle.qe_base.specs.declared.outside.calls.Calls.{Calls}
 
@@ -36,3 +36,8 @@ with_fault calls = record calls { faults = one_more calls.faults }
 -- one call more, and one fault more where it failed
 abbrev pub after_call : Calls → Calls
 after_call calls = if fails_next calls then with_fault (with_call calls) else with_call calls
+
+-- the next call was made, and failed exactly where it was to
+pub record MakesCall (before after : Calls) (failed : Type 0) : Type 0 where
+  pub exactly : failed ↔ (fails_next before ≡ true)
+  pub counted : after ≡ after_call before

@@ -1,12 +1,12 @@
 -- What a host in memory tells.
-use Rattle.std.specs.Prelude.{◌≡◌, ℕ, Bool, true, false, ◌&&◌, ◌||◌, List, Option, Some, filter, map, is_none}
+use Rattle.std.specs.Prelude.{◌≡◌, ℕ, Bool, true, false, ◌&&◌, ◌||◌, List, Option, Some, filter, map, is_none, if◌then◌else◌}
 use Rattle.qe_base.specs.declared.outside.calls.Calls.{Calls}
 use Rattle.qe_base.specs.declared.outside.mem_source.MemSource.{MemSource}
 use Rattle.qe_base.specs.declared.outside.mem_sink.MemSink.{MemSink}
 use Rattle.qe_base.specs.declared.outside.mem_host.MemHost.{MemHost}
 use Rattle.qe_base.specs.declared.outside.mem_host.HostCall.{HostCall}
 use Rattle.qe_base.specs.declared.outside.mem_host.HostCall.TheVariants.{Fetch}
-use Rattle.qe_base.specs.Calls.{is_steady, fails_next}
+use Rattle.qe_base.specs.Calls.{is_steady, fails_next, with_call, with_fault}
 use Rattle.qe_base.specs.MemSource.{source_reads}
 use Rattle.qe_base.specs.MemSink.{sink_writes}
 use Rattle.qe_base.specs.Outside.{Files, file_named}
@@ -42,6 +42,10 @@ host_is_steady host = is_steady host.fetches && is_steady (source_reads host.sou
 abbrev pub refuses : MemHost → List ℕ → Bool
 refuses host name = fails_next host.fetches || is_none (file_named name host.files)
 
+-- one fetch more, and one fault more where it was refused
+abbrev pub after_fetch : MemHost → List ℕ → Calls
+after_fetch host name = if refuses host name then with_fault (with_call host.fetches) else with_call host.fetches
+
 -- all but the source's bytes and the count of its reads is as it was
 pub record SameButInput (before after : MemHost) : Type 0 where
   pub files : after.files ≡ before.files
@@ -55,3 +59,10 @@ pub record SameButOutput (before after : MemHost) : Type 0 where
   pub source : after.source ≡ before.source
   pub fetches : after.fetches ≡ before.fetches
   pub failing : (sink_writes after.sink).failing ≡ (sink_writes before.sink).failing
+
+-- all but the count of fetches is as it was
+pub record SameButFetches (before after : MemHost) : Type 0 where
+  pub files : after.files ≡ before.files
+  pub source : after.source ≡ before.source
+  pub sink : after.sink ≡ before.sink
+  pub failing : after.fetches.failing ≡ before.fetches.failing

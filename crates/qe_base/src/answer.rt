@@ -34,17 +34,34 @@ pub enum Why {
 #[derive(Clone, Copy, Debug, PartialEq, Eq)]
 pub enum Rule {
     /// Another row has the key's values.
-    Unique { table: TableId, key: u16 },
+    Unique {
+        table: TableId,
+        key: u16,
+    },
     /// A required relation would lose its row.
-    Required { relation: RelId },
+    Required {
+        relation: RelId,
+    },
     /// A row that is there isn't related through the field.
-    Unconnected { table: TableId, field: u16 },
+    Unconnected {
+        table: TableId,
+        field: u16,
+    },
     /// A value isn't one of its column's.
-    Range { table: TableId, column: u16, why: Why },
+    Range {
+        table: TableId,
+        column: u16,
+        why: Why,
+    },
     /// There is no such row.
-    Absent { table: TableId },
+    Absent {
+        table: TableId,
+    },
     /// The row of a required relation isn't there.
-    Dangling { table: TableId, field: u16 },
+    Dangling {
+        table: TableId,
+        field: u16,
+    },
 }
 
 /// Why an operation has no answer.

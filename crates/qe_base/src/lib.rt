@@ -13,9 +13,7 @@ mod write;
 
 pub use answer::{Answer, OpFault, Outside, Rule, Why};
 pub use outside::{Failed, FetchFault, Host, HostCall, MemHost, MemSink, MemSource, Sink, Source};
-pub use query::{
-    Child, Filter, Like, Look, OrderBy, OrderEnd, Page, Pick, Quant, Test, Unique,
-};
+pub use query::{Child, Filter, Like, Look, OrderBy, OrderEnd, Page, Pick, Quant, Test, Unique};
 pub use schema::{Action, Choice, Column, Field, Fill, Key, Link, Relation, Schema, Table};
 pub use sqlite_items::{Boxed, Items};
 pub use text::{Bytes, Memory, Text};

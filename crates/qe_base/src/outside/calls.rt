@@ -1,4 +1,4 @@
-ghost use Rattle.std.specs.Prelude.{◌≡◌, ◌↔◌, IfOk, IsErr, true, false};
+ghost use Rattle.std.specs.Prelude.{◌≡◌, ◌≤◌, ◌↔◌, IfOk, IsErr, true, false};
 ghost use Rattle.qe_base.specs.Causes.{HasCause};
 
 use crate::outside::Failed;
@@ -16,7 +16,7 @@ pub struct Calls {
 }
 
 impl Calls {
-    ghost use Rattle.qe_base.specs.Calls.{no_calls, fails_next, may_fail, after_call, with_fault};
+    ghost use Rattle.qe_base.specs.Calls.{MakesCall, no_calls, may_fail, with_fault};
 
     pub fn new(failing: Items<u64>) -> Calls
         ensures { result ≡ no_calls failing }
@@ -31,8 +31,7 @@ impl Calls {
     #[tactic(auto, using(crate::proofs::LaterCalls::listed_is_later, crate::proofs::LaterCalls::none_later))]
     /// Counts a call, which fails where it is listed.
     pub fn begin(&mut self) -> Result<(), Failed>
-        ensures listed { IsErr result ↔ (fails_next self.old ≡ true) }
-        ensures after { self.new ≡ after_call self.old }
+        ensures call { MakesCall self.old self.new (IsErr result) }
         ensures cause { HasCause (may_fail self.old) self.old.faults self.new.faults (IsErr result) }
         ensures sure { may_fail self.old ≡ false → may_fail self.new ≡ false }
     {
@@ -48,7 +47,8 @@ impl Calls {
     }
 
     pub fn count_fault(&mut self)
-        ensures { self.new ≡ with_fault self.old }
+        ensures fault { self.new ≡ with_fault self.old }
+        ensures later { self.old.faults ≤ self.new.faults }
     {
         self.faults = self.faults.saturating_add(1);
     }

@@ -1,8 +1,8 @@
-ghost use Rattle.std.specs.Prelude.{◌≡◌, ◌+◌, ◌↔◌, ◌&&◌, Some, IfOk, IfSome, IsErr, IsErrOf, true, false, take};
+ghost use Rattle.std.specs.Prelude.{◌≡◌, ◌+◌, ◌≤◌, ◌↔◌, ◌&&◌, Some, IfOk, IfSome, IsSome, IsErr, IsErrOf, true, false, length, min, take};
 ghost use Rattle.std.specs.Option.{option_copied};
 ghost use Rattle.qe_base.specs.Causes.{HasCause};
 ghost use Rattle.qe_base.specs.MemHost.{fetches_of};
-ghost use Rattle.qe_base.specs.Outside.{Files, Fetches, file_named};
+ghost use Rattle.qe_base.specs.Outside.{Reads, Writes, Fetches, file_named};
 
 use crate::outside::calls::Calls;
 use crate::outside::mem_sink::MemSink;
@@ -102,7 +102,8 @@ impl MemHost {
 }
 
 impl Source for MemHost {
-    ghost use Rattle.qe_base.specs.MemSource.{source_left, source_faults, source_may_fail};
+    ghost use Rattle.qe_base.specs.Calls.{MakesCall};
+    ghost use Rattle.qe_base.specs.MemSource.{source_left, source_reads, source_faults, source_may_fail};
     ghost use Rattle.qe_base.specs.MemHost.{host_source, SameButInput};
 
     ghost left = { λ host. source_left (host_source host) };
@@ -113,13 +114,22 @@ impl Source for MemHost {
 
     ghost same_but_input = { SameButInput };
 
-    fn read(&mut self, into: &mut [u8]) -> Result<usize, Failed> {
+    /// As its source does.
+    fn read(&mut self, into: &mut [u8]) -> Result<usize, Failed>
+        ensures bytes { Reads (source_left (host_source self.old)) (source_left (host_source self.new)) into.new result }
+        ensures full { IfOk result (λ count. IfSome (source_left (host_source self.old)) (λ left. count ≡ min (length left) (length into.new))) }
+        ensures call { MakesCall (source_reads (host_source self.old)) (source_reads (host_source self.new)) (IsErr result) }
+        ensures cause { HasCause (source_may_fail (host_source self.old)) (source_faults (host_source self.old)) (source_faults (host_source self.new)) (IsErr result) }
+        ensures sure { source_may_fail (host_source self.old) ≡ false → source_may_fail (host_source self.new) ≡ false }
+        ensures apart { SameButInput self.old self.new }
+    {
         self.source.read(into)
     }
 }
 
 impl Sink for MemHost {
-    ghost use Rattle.qe_base.specs.MemSink.{sink_taken, sink_faults, sink_may_fail};
+    ghost use Rattle.qe_base.specs.Calls.{MakesCall};
+    ghost use Rattle.qe_base.specs.MemSink.{sink_taken, sink_room, sink_writes, sink_faults, sink_may_fail};
     ghost use Rattle.qe_base.specs.MemHost.{host_sink, SameButOutput};
 
     ghost taken = { λ host. sink_taken (host_sink host) };
@@ -130,14 +140,24 @@ impl Sink for MemHost {
 
     ghost same_but_output = { SameButOutput };
 
-    fn write(&mut self, piece: &[u8]) -> Result<usize, Failed> {
+    /// As its sink does.
+    fn write(&mut self, piece: &[u8]) -> Result<usize, Failed>
+        ensures bytes { Writes (sink_taken (host_sink self.old)) (sink_taken (host_sink self.new)) piece.now result }
+        ensures whole { IfOk result (λ count. count ≡ length piece.now) }
+        ensures tells { IfOk result (λ _. IfSome (sink_taken (host_sink self.old)) (λ taken. IsSome (sink_taken (host_sink self.new)) ↔ (length taken + length piece.now ≤ sink_room (host_sink self.old)))) }
+        ensures room { sink_room (host_sink self.new) ≡ sink_room (host_sink self.old) }
+        ensures call { MakesCall (sink_writes (host_sink self.old)) (sink_writes (host_sink self.new)) (IsErr result) }
+        ensures cause { HasCause (sink_may_fail (host_sink self.old)) (sink_faults (host_sink self.old)) (sink_faults (host_sink self.new)) (IsErr result) }
+        ensures sure { sink_may_fail (host_sink self.old) ≡ false → sink_may_fail (host_sink self.new) ≡ false }
+        ensures apart { SameButOutput self.old self.new }
+    {
         self.sink.write(piece)
     }
 }
 
 impl Host for MemHost {
     ghost use Rattle.std.proofs.Common.{rules};
-    ghost use Rattle.qe_base.specs.MemHost.{host_files, host_faults, host_is_steady};
+    ghost use Rattle.qe_base.specs.MemHost.{host_files, host_fetches, host_faults, host_is_steady, refuses, after_fetch, SameButFetches};
 
     ghost files = { host_files };
 
@@ -145,7 +165,14 @@ impl Host for MemHost {
 
     ghost is_steady = { host_is_steady };
 
-    fn fetch(&mut self, name: &str, most: usize) -> Result<Bytes, FetchFault> {
+    /// Fails where the call is listed, and where there is no such file.
+    fn fetch(&mut self, name: &str, most: usize) -> Result<Bytes, FetchFault>
+        ensures fetches { Fetches (host_files self.old) (host_is_steady self.old) name.now most result }
+        ensures refused { IsErrOf result FetchFault.Failed ↔ (refuses self.old name.now ≡ true) }
+        ensures counted { host_fetches self.new ≡ after_fetch self.old name.now }
+        ensures cause { HasCause true (host_faults self.old) (host_faults self.new) (IsErrOf result FetchFault.Failed) }
+        ensures others { SameButFetches self.old self.new }
+    {
         if self.fetches.begin().is_err() {
             return Err(FetchFault::Failed);
         }

@@ -58,7 +58,7 @@ impl MemSink {
 
 impl Sink for MemSink {
     ghost use Rattle.qe_base.specs.Outside.{Writes};
-    ghost use Rattle.qe_base.specs.Calls.{fails_next, after_call};
+    ghost use Rattle.qe_base.specs.Calls.{MakesCall};
     ghost use Rattle.qe_base.specs.MemSink.{sink_taken, sink_room, sink_writes, sink_faults, sink_may_fail};
 
     ghost taken = { sink_taken };
@@ -75,8 +75,7 @@ impl Sink for MemSink {
         ensures whole { IfOk result (λ count. count ≡ length piece.now) }
         ensures tells { IfOk result (λ _. IfSome (sink_taken self.old) (λ taken. IsSome (sink_taken self.new) ↔ (length taken + length piece.now ≤ sink_room self.old))) }
         ensures room { sink_room self.new ≡ sink_room self.old }
-        ensures listed { IsErr result ↔ (fails_next (sink_writes self.old) ≡ true) }
-        ensures writes { sink_writes self.new ≡ after_call (sink_writes self.old) }
+        ensures call { MakesCall (sink_writes self.old) (sink_writes self.new) (IsErr result) }
         ensures cause { HasCause (sink_may_fail self.old) (sink_faults self.old) (sink_faults self.new) (IsErr result) }
         ensures sure { sink_may_fail self.old ≡ false → sink_may_fail self.new ≡ false }
     {

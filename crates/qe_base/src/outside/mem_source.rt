@@ -58,7 +58,7 @@ impl MemSource {
 impl Source for MemSource {
     ghost use Rattle.std.specs.Prelude.{nat_lt};
     ghost use Rattle.qe_base.specs.Outside.{Reads};
-    ghost use Rattle.qe_base.specs.Calls.{fails_next, after_call};
+    ghost use Rattle.qe_base.specs.Calls.{MakesCall};
     ghost use Rattle.qe_base.specs.MemSource.{source_left, source_reads, source_faults, source_may_fail};
 
     ghost left = { source_left };
@@ -73,8 +73,7 @@ impl Source for MemSource {
     fn read(&mut self, into: &mut [u8]) -> Result<usize, Failed>
         ensures bytes { Reads (source_left self.old) (source_left self.new) into.new result }
         ensures full { IfOk result (λ count. IfSome (source_left self.old) (λ left. count ≡ min (length left) (length into.new))) }
-        ensures listed { IsErr result ↔ (fails_next (source_reads self.old) ≡ true) }
-        ensures reads { source_reads self.new ≡ after_call (source_reads self.old) }
+        ensures call { MakesCall (source_reads self.old) (source_reads self.new) (IsErr result) }
         ensures cause { HasCause (source_may_fail self.old) (source_faults self.old) (source_faults self.new) (IsErr result) }
         ensures sure { source_may_fail self.old ≡ false → source_may_fail self.new ≡ false }
     {
