@@ -7,6 +7,8 @@ mod outside;
 mod query;
 mod schema;
 mod schema_copy;
+#[cfg(test)]
+mod tests;
 mod text;
 mod value;
 mod write;
