@@ -13,7 +13,7 @@ mod text;
 mod value;
 mod write;
 
-pub use answer::{Answer, OpFault, Outside, Rule, Why};
+pub use answer::{Answer, OpFault, Outside, Rule};
 pub use outside::{Failed, FetchFault, Host, HostCall, MemHost, MemSink, MemSource, Sink, Source};
 pub use query::{Child, Filter, Like, Look, OrderBy, OrderEnd, Page, Pick, Quant, Test, Unique};
 pub use schema::{Action, Choice, Column, Field, Fill, Key, Link, Relation, Schema, Table};
