@@ -1,5 +1,5 @@
 -- Whether later calls are to fail, when a call is counted.
-use Rattle.std.proofs.Common.{◌≡◌, ℕ, ◌+◌, ◌≤◌, Bool, true, false, ◌||◌, ◌==◌, List, [], ◌∷◌, refl, arith, nat_lt}
+use Rattle.std.proofs.Common.{◌≡◌, ℕ, ◌+◌, ◌≤◌, true, false, ◌==◌, List, [], ◌∷◌, refl, arith, nat_lt}
 use Rattle.std.specs.List.{list_any}
 
 pub listed_is_later : (made : ℕ) (numbers : List ℕ) → list_any (λ number. number == made + 1) numbers ≡ true → list_any (nat_lt made) numbers ≡ true

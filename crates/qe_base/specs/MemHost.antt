@@ -1,5 +1,5 @@
 -- What a host in memory tells.
-use Rattle.std.specs.Prelude.{◌≡◌, ℕ, Bool, true, false, ◌&&◌, ◌||◌, List, Option, Some, filter, map, is_none, if◌then◌else◌}
+use Rattle.std.specs.Prelude.{◌≡◌, ℕ, Bool, true, ◌&&◌, ◌||◌, List, Option, Some, filter, map, is_none, if◌then◌else◌}
 use Rattle.qe_base.specs.declared.outside.calls.Calls.{Calls}
 use Rattle.qe_base.specs.declared.outside.mem_source.MemSource.{MemSource}
 use Rattle.qe_base.specs.declared.outside.mem_sink.MemSink.{MemSink}
@@ -28,6 +28,7 @@ host_source host = host.source
 abbrev pub host_sink : MemHost → MemSink
 host_sink host = host.sink
 
+-- the fetches so far, and those that are to fail
 abbrev pub host_fetches : MemHost → Calls
 host_fetches host = host.fetches
 

@@ -12,6 +12,7 @@ sink_taken sink = if sink.tells then Some sink.taken.items else None
 abbrev pub sink_room : MemSink → ℕ
 sink_room sink = sink.room
 
+-- the writes so far, and those that are to fail
 abbrev pub sink_writes : MemSink → Calls
 sink_writes sink = sink.writes
 

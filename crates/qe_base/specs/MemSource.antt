@@ -8,6 +8,7 @@ use Rattle.qe_base.specs.Calls.{may_fail}
 abbrev pub source_left : MemSource → Option (List ℕ)
 source_left source = Some (drop source.given source.bytes)
 
+-- the reads so far, and those that are to fail
 abbrev pub source_reads : MemSource → Calls
 source_reads source = source.reads
 

@@ -1,8 +1,11 @@
-ghost use Rattle.std.specs.Prelude.{◌≡◌, ◌++◌, Some, IfOk, IfSome, true, false, take};
+ghost use Rattle.std.specs.Prelude.{◌≡◌, ◌++◌, Some, None, IfOk, IfSome, true, false, take};
+ghost use Rattle.qe_base.specs.MemSink.{sink_taken};
 ghost use Rattle.qe_base.specs.MemSource.{source_faults};
 
-use crate::{Bytes, Failed, FetchFault, Host, HostCall, Items, MemHost, MemSink, MemSource, Memory};
-use crate::{Sink, Source, Text};
+use crate::{
+    Bytes, Failed, FetchFault, Host, HostCall, Items, MemHost, MemSink, MemSource, Memory, Sink,
+    Source, Text,
+};
 use std::alloc::Global;
 use std::test::Fail;
 
@@ -63,6 +66,16 @@ fn reads_on_after_a_failed_read(rt: HostRuntime) -> Result<(), Fail> {
     Ok(())
 }
 
+/// A sink that took more than it has room for.
+fn sink_past_its_room(alloc: Global) -> Result<MemSink, Memory>
+    ensures { IfOk result (λ sink. sink_taken sink ≡ None) }
+{
+    let mut sink = MemSink::new(alloc, 3, &[])?;
+    let _ = sink.write(&[1, 2]);
+    let _ = sink.write(&[3, 4]);
+    Ok(sink)
+}
+
 #[test]
 fn takes_what_goes_past_the_room(rt: HostRuntime) -> Result<(), Fail> {
     let mut sink = MemSink::new(rt.alloc(), 3, &[3])?;
@@ -76,6 +89,8 @@ fn takes_what_goes_past_the_room(rt: HostRuntime) -> Result<(), Fail> {
     }
     assert_eq!(rt; sink.taken(), [1, 2, 3].as_slice());
     assert_eq!(rt; sink.write(&[4, 5]), Ok(2));
+    let mut sink = sink_past_its_room(rt.alloc())?;
+    assert_eq!(rt; sink.write(&[5]), Ok(1));
     assert_eq!(rt; MemSink::new(rt.alloc(), u64::MAX, &[]).is_err(), true);
     Ok(())
 }

@@ -1,8 +1,8 @@
-ghost use Rattle.std.specs.Prelude.{◌≡◌, ◌≤◌, ◌↔◌, IfOk, IsErr, true, false};
+//! Calls that are counted, of which some are to fail.
+ghost use Rattle.std.specs.Prelude.{◌≡◌, ◌≤◌, ◌↔◌, IsErr, true, false};
 ghost use Rattle.qe_base.specs.Causes.{HasCause};
 
 use crate::outside::Failed;
-use crate::text::Memory;
 use sqlite_items::Items;
 use std::alloc::Global;
 
@@ -18,6 +18,7 @@ pub struct Calls {
 impl Calls {
     ghost use Rattle.qe_base.specs.Calls.{MakesCall, no_calls, may_fail, with_fault};
 
+    /// No call was made yet, and these are to fail.
     pub fn new(failing: Items<u64>) -> Calls
         ensures { result ≡ no_calls failing }
     {
@@ -28,8 +29,8 @@ impl Calls {
         }
     }
 
-    #[tactic(auto, using(crate::proofs::LaterCalls::listed_is_later, crate::proofs::LaterCalls::none_later))]
     /// Counts a call, which fails where it is listed.
+    #[tactic(auto, using(crate::proofs::LaterCalls::listed_is_later, crate::proofs::LaterCalls::none_later))]
     pub fn begin(&mut self) -> Result<(), Failed>
         ensures call { MakesCall self.old self.new (IsErr result) }
         ensures cause { HasCause (may_fail self.old) self.old.faults self.new.faults (IsErr result) }
@@ -46,6 +47,7 @@ impl Calls {
         Ok(())
     }
 
+    /// One fault more, up to the last value that the count can have.
     pub fn count_fault(&mut self)
         ensures fault { self.new ≡ with_fault self.old }
         ensures later { self.old.faults ≤ self.new.faults }

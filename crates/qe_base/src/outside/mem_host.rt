@@ -1,3 +1,4 @@
+//! Files, a source and a sink in memory.
 ghost use Rattle.std.specs.Prelude.{◌≡◌, ◌+◌, ◌≤◌, ◌↔◌, ◌&&◌, Some, IfOk, IfSome, IsSome, IsErr, IsErrOf, true, false, length, min, take};
 ghost use Rattle.std.specs.Option.{option_copied};
 ghost use Rattle.qe_base.specs.Causes.{HasCause};
@@ -13,8 +14,9 @@ use sqlite_items::Items;
 use std::alloc::Global;
 
 /// A kind of call that a host in memory counts.
-#[derive(Clone, Copy, Debug, PartialEq, Eq)]
+#[derive(Clone, Copy)]
 pub enum HostCall {
+    /// `Host::fetch`.
     Fetch,
 }
 
@@ -49,6 +51,7 @@ pub struct MemHost {
     fetches: Calls,
 }
 
+/// The numbers of the fetches in a list of calls.
 fn fetch_numbers(alloc: Global, calls: &[(HostCall, u64)]) -> Result<Items<u64>, Memory>
     ensures { IfOk result (λ numbers. numbers ≡ fetches_of calls.now) }
 {

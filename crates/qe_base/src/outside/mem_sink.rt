@@ -1,3 +1,4 @@
+//! A place in memory to write to.
 ghost use Rattle.std.specs.Prelude.{◌≡◌, ◌+◌, ◌≤◌, ◌↔◌, [], Some, IfOk, IfSome, IsErr, IsSome, IsTrue, true, false, length, nat_lt, vec_capacity};
 ghost use Rattle.std.specs.List.{list_any};
 ghost use Rattle.qe_base.specs.Causes.{HasCause};
@@ -49,6 +50,7 @@ impl MemSink {
         self.taken.as_slice()
     }
 
+    /// The bytes taken and a piece fit into the room together.
     fn has_room_for(&self, piece: &[u8]) -> bool
         ensures { IsTrue result ↔ (length self.now.taken.items + length piece.now ≤ self.now.room) }
     {
@@ -69,7 +71,7 @@ impl Sink for MemSink {
 
     ghost same_but_output = { λ _ _. Unit {0} };
 
-    /// Takes the whole piece.
+    /// Takes the whole piece. One that goes past the room isn't kept, and no later one.
     fn write(&mut self, piece: &[u8]) -> Result<usize, Failed>
         ensures bytes { Writes (sink_taken self.old) (sink_taken self.new) piece.now result }
         ensures whole { IfOk result (λ count. count ≡ length piece.now) }

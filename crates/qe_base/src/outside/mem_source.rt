@@ -1,3 +1,4 @@
+//! Bytes in memory to read from.
 ghost use Rattle.std.specs.Prelude.{◌≡◌, ◌+◌, ◌^◌, ◌<◌, ◌≤◌, ◌↔◌, Some, IfOk, IsErr, IfSome, true, false, min, length, nat_lt, take};
 ghost use Rattle.std.specs.List.{list_any};
 ghost use Rattle.qe_base.specs.Causes.{HasCause};
@@ -47,6 +48,7 @@ impl MemSource {
         })
     }
 
+    /// The bytes that are left.
     fn left(&self) -> &[u8]
         ensures left { source_left self.now ≡ Some result.now }
         ensures fits { self.now.given + length result.now < 2 ^ 64 }
@@ -56,7 +58,6 @@ impl MemSource {
 }
 
 impl Source for MemSource {
-    ghost use Rattle.std.specs.Prelude.{nat_lt};
     ghost use Rattle.qe_base.specs.Outside.{Reads};
     ghost use Rattle.qe_base.specs.Calls.{MakesCall};
     ghost use Rattle.qe_base.specs.MemSource.{source_left, source_reads, source_faults, source_may_fail};

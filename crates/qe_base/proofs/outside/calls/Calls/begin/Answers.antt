@@ -1,5 +1,5 @@
 -- A listed call was one that may fail.
-use Rattle.std.proofs.Common.{◌≡◌, ◌+◌, true, ◌==◌, arith, rules, sym, ◌∙◌, ap}
+use Rattle.std.proofs.Common.{◌≡◌, ◌+◌, true, ◌==◌, arith, rules, sym, ◌∙◌}
 use Rattle.std.proofs.lemmas.Bool.{false≢true}
 use Rattle.std.specs.List.{list_any}
 use Rattle.qe_base.proofs.LaterCalls.{listed_is_later}

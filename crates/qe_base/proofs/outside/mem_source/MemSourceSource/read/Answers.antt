@@ -1,5 +1,5 @@
 -- What was given and what is left then make up what was left before.
-use Rattle.std.proofs.Common.{◌≡◌, ℕ, ◌+◌, ◌<◌, ◌↔◌, min, List, [], ◌∷◌, ◌++◌, length, Some, arith, rules, take, drop, refl, ap, sym, ◌∙◌}
+use Rattle.std.proofs.Common.{◌≡◌, ℕ, ◌+◌, ◌<◌, ◌↔◌, min, List, [], ◌∷◌, ◌++◌, length, Some, arith, rules, take, drop, ap, sym, ◌∙◌}
 use Rattle.std.proofs.lemmas.List.{take-append-drop, drop-drop}
 use Rattle.std.proofs.lemmas.Grind.{common_steps}
 use Rattle.qe_base.proofs.outside.mem_source.MemSourceSource.read.Goals as goal
