@@ -1,0 +1,127 @@
+-- Laws of the plain form.
+use Rattle.std.proofs.Common.{◌≡◌, ◌<◌, ◌≤◌, ◌+◌, ◌==◌, ℕ, Bool, true, false, not, List, [], ◌∷◌, Option, Some, None, length, map, take, drop, codes, refl, ap, ◌∙◌, sym, suc, arith, rules, cond}
+use Rattle.std.specs.Prelude.{bytes_eq, if◌then◌else◌, option_map, option_and_then, IsUtf8}
+use Rattle.std.specs.Str.{IsAscii}
+use Rattle.std.specs.List.{slice_split, onto_first, before_first, after_first, position_or_len, join_with_byte, list_all}
+use Rattle.std.proofs.lemmas.List.Splits.{join_with_byte-slice_split, length-slice_split}
+use Rattle.std.proofs.lemmas.Str.{IsUtf8-from_ascii}
+use Rattle.std.proofs.lemmas.Str.Ascii.{IsAscii-nil, IsAscii-cons}
+use Rattle.std.proofs.lemmas.Bool.{and_parts, ne_eqb, false≢true}
+use Rattle.std.proofs.lemmas.Bool.Decides.{nat_tests}
+use Rattle.qe_base.specs.Accepted.{is_letter, is_word, is_name}
+use Rattle.psl_schema.specs.Plain.{parts, lines, words, field_of, fields_of, is_end, is_close, all_some}
+use Rattle.psl_schema.specs.declared.form.FieldLine.{FieldLine}
+
+-- a lone part is the text
+lone_part : (byte : ℕ) (text part : List ℕ) → parts byte text ≡ part ∷ [] → part ≡ text
+lone_part byte text part lone = sym (ap (join_with_byte byte) lone) ∙ join_with_byte-slice_split byte text
+
+-- a text has a part
+some_part : (byte : ℕ) (text : List ℕ) → parts byte text ≡ [] → ⊥
+some_part byte text none =
+    let counted = length-slice_split (λ c. c == byte) text in
+    let empty : length (parts byte text) ≡ 0 = ap length none in
+    omega arith
+
+unmarked_words : (name kind : List ℕ) (marks : List (List ℕ)) → ((mark : List ℕ) → marks ≡ mark ∷ [] → bytes_eq mark (codes "@id") ≡ false) → (marks ≡ [] → ⊥) → field_of (name ∷ kind ∷ marks) ≡ None
+unmarked_words name kind [] marked some = absurd (some refl)
+unmarked_words name kind (mark ∷ []) marked some = rw (marked mark refl)
+unmarked_words name kind (mark ∷ other ∷ marks) marked some = refl
+
+-- a third word that isn't the mark makes no field
+pub unmarked : (name kind mark : List ℕ) → bytes_eq mark (codes "@id") ≡ false → field_of (name ∷ kind ∷ words mark) ≡ None
+unmarked name kind mark other =
+    unmarked_words name kind (words mark) (λ part lone. rw (lone_part 32 mark part lone) other) (some_part 32 mark)
+
+unended : (is_newline : Bool) (c : ℕ) (rest : List (List ℕ)) → (rest ≡ [] → ⊥) → is_end (cond is_newline ([] ∷ rest) (onto_first c rest)) ≡ false
+unended true c [] some = absurd (some refl)
+unended true c (part ∷ rest) some = refl
+unended false c [] some = refl
+unended false c (part ∷ rest) some = refl
+
+-- a text without bytes is the end
+pub end_law : (text : List ℕ) → is_end (lines text) ≡ (length text == 0)
+end_law [] = refl
+end_law (c ∷ cs) =
+    let some : (length (c ∷ cs) == 0) ≡ false = ne_eqb (length (c ∷ cs)) 0 (λ none. omega (arith, none)) in
+    unended (c == 10) c (lines cs) (some_part 10 cs) ∙ sym some
+
+first_yes : {X : Type 0} (p : X → Bool) (x : X) (xs : List X) → p x ≡ true → position_or_len p (x ∷ xs) ≡ 0
+first_yes p x xs passes = rw passes
+
+first_no : {X : Type 0} (p : X → Bool) (x : X) (xs : List X) → p x ≡ false → position_or_len p (x ∷ xs) ≡ 1 + position_or_len p xs
+first_no p x xs fails = rw fails
+
+before_yes : {X : Type 0} (p : X → Bool) (x : X) (xs : List X) → p x ≡ true → before_first p (x ∷ xs) ≡ []
+before_yes p x xs passes = ap (λ n. take n (x ∷ xs)) (first_yes p x xs passes)
+
+after_yes : {X : Type 0} (p : X → Bool) (x : X) (xs : List X) → p x ≡ true → after_first p (x ∷ xs) ≡ xs
+after_yes p x xs passes = ap (λ n. drop (n + 1) (x ∷ xs)) (first_yes p x xs passes)
+
+before_no : {X : Type 0} (p : X → Bool) (x : X) (xs : List X) → p x ≡ false → before_first p (x ∷ xs) ≡ x ∷ before_first p xs
+before_no p x xs fails =
+    let next : position_or_len p (x ∷ xs) ≡ suc (position_or_len p xs) = first_no p x xs fails ∙ omega arith in
+    ap (λ n. take n (x ∷ xs)) next
+
+after_no : {X : Type 0} (p : X → Bool) (x : X) (xs : List X) → p x ≡ false → after_first p (x ∷ xs) ≡ after_first p xs
+after_no p x xs fails =
+    let counted = first_no p x xs fails in
+    let next : position_or_len p (x ∷ xs) + 1 ≡ suc (position_or_len p xs + 1) = omega arith in
+    ap (λ n. drop n (x ∷ xs)) next
+
+-- the closing line must be the last
+pub close_law : (line : List ℕ) (more : List (List ℕ)) → is_close line ≡ true → fields_of (line ∷ more) ≡ (if is_end more then Some [] else None)
+close_law line more close =
+    let before = before_yes is_close line more close in
+    let after = after_yes is_close line more close in
+    ap (λ rest. if is_end rest then all_some (map (λ line. field_of (words line)) (before_first is_close (line ∷ more))) else None) after
+    ∙ ap (λ fields. if is_end more then all_some (map (λ line. field_of (words line)) fields) else None) before
+
+one_more : (ended : Bool) (field : Option FieldLine) (rest : List (Option FieldLine)) → (if ended then all_some (field ∷ rest) else None) ≡ option_and_then (λ field. option_map (λ fields. field ∷ fields) (if ended then all_some rest else None)) field
+one_more true None rest = refl
+one_more true (Some field) rest = refl
+one_more false None rest = refl
+one_more false (Some field) rest = refl
+
+-- the line of a field comes before the other lines
+pub field_law : (line : List ℕ) (more : List (List ℕ)) → is_close line ≡ false → fields_of (line ∷ more) ≡ option_and_then (λ field. option_map (λ fields. field ∷ fields) (fields_of more)) (field_of (words line))
+field_law line more inside =
+    let before = before_no is_close line more inside in
+    let after = after_no is_close line more inside in
+    ap (λ rest. if is_end rest then all_some (map (λ line. field_of (words line)) (before_first is_close (line ∷ more))) else None) after
+    ∙ ap (λ fields. if is_end (after_first is_close more) then all_some (map (λ line. field_of (words line)) fields) else None) before
+    ∙ one_more (is_end (after_first is_close more)) (field_of (words line)) (map (λ line. field_of (words line)) (before_first is_close more))
+
+abbrev none_given : {A B : Type 0} → A → Option B
+none_given value = None
+
+pub none_after : {A B : Type 0} (told : Option A) → option_and_then (none_given {A = A} {B = B}) told ≡ None
+none_after None = refl
+none_after (Some value) = refl
+
+last_of : (line : List ℕ) (close : Bool) → is_close line ≡ close → fields_of (line ∷ []) ≡ None
+last_of line true close = close_law line [] close
+last_of line false inside = field_law line [] inside ∙ none_after (field_of (words line))
+
+-- a line that no newline ends is none of the form
+pub last_law : (line : List ℕ) → fields_of (line ∷ []) ≡ None
+last_law line = last_of line (is_close line) refl
+
+low_letter : (c : ℕ) → is_letter c ≡ true → c < 128
+low_letter c letter = grind (arith, nat_tests)
+
+low_word : (c : ℕ) → is_word c ≡ true → c < 128
+low_word c word = grind (arith, nat_tests)
+
+ascii_words : (cs : List ℕ) → list_all is_word cs ≡ true → IsAscii cs
+ascii_words [] all = IsAscii-nil
+ascii_words (c ∷ cs) all =
+    let both = and_parts (is_word c) (list_all is_word cs) all in
+    IsAscii-cons c cs (low_word c both.0) (ascii_words cs both.1)
+
+-- a name is text
+pub name_utf8 : (word : List ℕ) → is_name word ≡ true → IsUtf8 word
+name_utf8 [] name = absurd (false≢true name)
+name_utf8 (c ∷ cs) name =
+    let both = and_parts (is_letter c) (list_all is_word cs) name in
+    IsUtf8-from_ascii (c ∷ cs) (IsAscii-cons c cs (low_letter c both.0) (ascii_words cs both.1))

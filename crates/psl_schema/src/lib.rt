@@ -1,0 +1,9 @@
+//! Schemas of the plain form of text: one model, whose fields stand a line each.
+#![tactic(auto)]
+
+mod accept;
+mod cut;
+mod form;
+
+
+pub use form::{PlainFault, plain};
