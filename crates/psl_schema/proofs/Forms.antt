@@ -1,15 +1,15 @@
 -- Laws of the plain form.
-use Rattle.std.proofs.Common.{◌≡◌, ◌<◌, ◌≤◌, ◌+◌, ◌==◌, ℕ, Bool, true, false, not, List, [], ◌∷◌, Option, Some, None, length, map, take, drop, codes, refl, ap, ◌∙◌, sym, suc, arith, rules, cond}
+use Rattle.std.proofs.Common.{◌≡◌, ◌<◌, ◌≤◌, ◌+◌, ◌==◌, ℕ, Bool, true, false, not, List, [], ◌∷◌, ◌++◌, Option, Some, None, length, map, take, drop, codes, refl, ap, ◌∙◌, sym, suc, append_assoc, append-nil, arith, rules, cond}
 use Rattle.std.specs.Prelude.{bytes_eq, if◌then◌else◌, option_map, option_and_then, IsUtf8}
 use Rattle.std.specs.Str.{IsAscii}
 use Rattle.std.specs.List.{slice_split, onto_first, before_first, after_first, position_or_len, join_with_byte, list_all}
 use Rattle.std.proofs.lemmas.List.Splits.{join_with_byte-slice_split, length-slice_split}
 use Rattle.std.proofs.lemmas.Str.{IsUtf8-from_ascii}
 use Rattle.std.proofs.lemmas.Str.Ascii.{IsAscii-nil, IsAscii-cons}
-use Rattle.std.proofs.lemmas.Bool.{and_parts, ne_eqb, false≢true}
+use Rattle.std.proofs.lemmas.Bool.{and_parts, and_right, ne_eqb, false≢true}
 use Rattle.std.proofs.lemmas.Bool.Decides.{nat_tests}
 use Rattle.qe_base.specs.Accepted.{is_letter, is_word, is_name}
-use Rattle.psl_schema.specs.Plain.{parts, lines, words, field_of, fields_of, is_end, is_close, all_some}
+use Rattle.psl_schema.specs.Plain.{parts, lines, words, field_of, fields_of, is_end, is_close, all_some, name_of, model_name}
 use Rattle.psl_schema.specs.declared.form.FieldLine.{FieldLine}
 
 -- a lone part is the text
@@ -107,6 +107,25 @@ last_of line false inside = field_law line [] inside ∙ none_after (field_of (w
 pub last_law : (line : List ℕ) → fields_of (line ∷ []) ≡ None
 last_law line = last_of line (is_close line) refl
 
+-- the fields so far are all, where the text ends behind the closing line
+pub all_read : (all : List (List ℕ)) (line after : List ℕ) (fields : List FieldLine) (whole : Option (List FieldLine)) → option_map (λ more. fields ++ more) (fields_of all) ≡ whole → all ≡ line ∷ lines after → is_close line ≡ true → (length after == 0) ≡ true → whole ≡ Some fields
+all_read all line after fields whole kept cut close empty =
+    sym kept
+    ∙ ap (λ all. option_map (λ more. fields ++ more) (fields_of all)) cut
+    ∙ ap (option_map (λ more. fields ++ more)) (close_law line (lines after) close ∙ ap (λ ended. if ended then Some [] else None) (end_law after ∙ empty))
+    ∙ ap Some (append-nil fields)
+
+joined : (fields : List FieldLine) (field : FieldLine) (rest : Option (List FieldLine)) → option_map (λ more. (fields ++ field ∷ []) ++ more) rest ≡ option_map (λ more. fields ++ more) (option_map (λ fields. field ∷ fields) rest)
+joined fields field None = refl
+joined fields field (Some rest) = ap Some (append_assoc fields (field ∷ []) rest)
+
+-- one more field is read
+pub one_read : (all : List (List ℕ)) (line : List ℕ) (more : List (List ℕ)) (fields : List FieldLine) (field : FieldLine) (whole : Option (List FieldLine)) → option_map (λ more. fields ++ more) (fields_of all) ≡ whole → all ≡ line ∷ more → is_close line ≡ false → field_of (words line) ≡ Some field → option_map (λ more. (fields ++ field ∷ []) ++ more) (fields_of more) ≡ whole
+one_read all line more fields field whole kept cut inside read =
+    joined fields field (fields_of more)
+    ∙ ap (option_map (λ more. fields ++ more)) (sym (ap fields_of cut ∙ field_law line more inside ∙ ap (option_and_then (λ field. option_map (λ fields. field ∷ fields) (fields_of more))) read))
+    ∙ kept
+
 low_letter : (c : ℕ) → is_letter c ≡ true → c < 128
 low_letter c letter = grind (arith, nat_tests)
 
@@ -125,3 +144,23 @@ name_utf8 [] name = absurd (false≢true name)
 name_utf8 (c ∷ cs) name =
     let both = and_parts (is_letter c) (list_all is_word cs) name in
     IsUtf8-from_ascii (c ∷ cs) (IsAscii-cons c cs (low_letter c both.0) (ascii_words cs both.1))
+
+unnamed_words : (keyword name : List ℕ) (braces : List (List ℕ)) → ((brace : List ℕ) → braces ≡ brace ∷ [] → bytes_eq brace (codes "{") ≡ false) → (braces ≡ [] → ⊥) → model_name (keyword ∷ name ∷ braces) ≡ None
+unnamed_words keyword name [] other some = absurd (some refl)
+unnamed_words keyword name (brace ∷ []) other some =
+    ap (λ opens. if opens then name_of name else None) (and_right (bytes_eq keyword (codes "model")) (bytes_eq brace (codes "{")) (other brace refl))
+unnamed_words keyword name (brace ∷ more ∷ braces) other some = refl
+
+-- a third word that isn't the brace makes no model
+pub unopened : (keyword name brace : List ℕ) → bytes_eq brace (codes "{") ≡ false → model_name (keyword ∷ name ∷ words brace) ≡ None
+unopened keyword name brace other =
+    unnamed_words keyword name (words brace) (λ part lone. rw (lone_part 32 brace part lone) other) (some_part 32 brace)
+
+misnamed_words : (keyword name : List ℕ) (braces : List (List ℕ)) → bytes_eq keyword (codes "model") ≡ false → model_name (keyword ∷ name ∷ braces) ≡ None
+misnamed_words keyword name [] other = refl
+misnamed_words keyword name (brace ∷ []) other = rw other
+misnamed_words keyword name (brace ∷ more ∷ braces) other = refl
+
+-- a first word that isn't the keyword makes no model
+pub misnamed : (keyword name brace : List ℕ) → bytes_eq keyword (codes "model") ≡ false → model_name (keyword ∷ name ∷ words brace) ≡ None
+misnamed keyword name brace other = misnamed_words keyword name (words brace) other

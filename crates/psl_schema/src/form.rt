@@ -1,10 +1,10 @@
 //! Reading a text of the plain form.
 ghost use Rattle.std.specs.Prelude.{◌≡◌, [], None, Some, IfOk};
-ghost use Rattle.psl_schema.specs.Plain.{Answers, words, name_of, kind_of, field_with, field_of, model_name};
+ghost use Rattle.psl_schema.specs.Plain.{Answers, words, name_of, kind_of, field_with, field_of, fields_of, lines, model_name};
 
 use crate::accept::is_name;
 use crate::cut::cut;
-use qe_base::{Kind, Memory, Text};
+use qe_base::{Items, Kind, Memory, Text};
 use std::alloc::{AllocError, AllocFailed, Global};
 
 /// Why a text gives no schema.
@@ -50,6 +50,7 @@ const INT: &[u8] = b"Int";
 const STRING: &[u8] = b"String";
 const MODEL: &[u8] = b"model";
 const OPEN: &[u8] = b"{";
+const CLOSE: &[u8] = b"}";
 
 #[tactic(auto, using(crate::proofs::Forms::name_utf8))]
 fn name_text(alloc: Global, word: &[u8]) -> Result<Text, PlainFault>
@@ -103,6 +104,39 @@ fn field_line(alloc: Global, line: &[u8]) -> Result<FieldLine, PlainFault>
             }
         }
     }
+}
+
+#[tactic(auto, using(crate::proofs::Forms::unopened, crate::proofs::Forms::misnamed))]
+fn model_line(alloc: Global, line: &[u8]) -> Result<Text, PlainFault>
+    ensures { Answers (model_name (words line.now)) result }
+{
+    let Some((keyword, rest)) = cut(line, b' ') else {
+        return Err(PlainFault::Unbuilt);
+    };
+    let Some((name, brace)) = cut(rest, b' ') else {
+        return Err(PlainFault::Unbuilt);
+    };
+    if keyword == MODEL && brace == OPEN {
+        name_text(alloc, name)
+    } else {
+        Err(PlainFault::Unbuilt)
+    }
+}
+
+#[tactic(auto, using(crate::proofs::Forms::end_law, crate::proofs::Forms::close_law, crate::proofs::Forms::field_law, crate::proofs::Forms::last_law))]
+fn field_lines(alloc: Global, text: &[u8]) -> Result<Items<FieldLine>, PlainFault>
+    ensures { Answers (fields_of (lines text.now)) result }
+{
+    let mut fields = Items::new(alloc);
+    let mut rest = text;
+    'lines: while let Some((line, after)) = cut(rest, b'\n') {
+        if line == CLOSE {
+            return if after.is_empty() { Ok(fields) } else { Err(PlainFault::Unbuilt) };
+        }
+        fields.push(field_line(alloc, line)?)?;
+        rest = after;
+    }
+    Err(PlainFault::Unbuilt)
 }
 
 pub fn plain() {}

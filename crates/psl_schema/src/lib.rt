@@ -4,6 +4,7 @@
 mod accept;
 mod cut;
 mod form;
+mod tables;
 
 
 pub use form::{PlainFault, plain};
