@@ -1,15 +1,17 @@
 -- Laws of the plain form.
-use Rattle.std.proofs.Common.{◌≡◌, ◌<◌, ◌≤◌, ◌+◌, ◌==◌, ℕ, Bool, true, false, not, List, [], ◌∷◌, ◌++◌, Option, Some, None, length, map, take, drop, codes, refl, ap, ◌∙◌, sym, suc, append_assoc, append-nil, arith, rules, cond}
-use Rattle.std.specs.Prelude.{bytes_eq, if◌then◌else◌, option_map, option_and_then, IsUtf8}
+use Rattle.std.proofs.Common.{◌≡◌, ◌<◌, ◌≤◌, ◌+◌, ◌-◌, ◌==◌, ◌&&◌, ℕ, Bool, true, false, List, [], ◌∷◌, ◌++◌, Option, Some, None, length, map, take, drop, codes, refl, ap, ◌∙◌, sym, suc, append_assoc, append-nil, arith, cond}
+use Rattle.std.specs.Prelude.{bytes_eq, if◌then◌else◌, option_map, option_and_then, IsUtf8, nat_eq, nat_le}
 use Rattle.std.specs.Str.{IsAscii}
-use Rattle.std.specs.List.{slice_split, onto_first, before_first, after_first, position_or_len, join_with_byte, list_all}
+use Rattle.std.specs.List.{onto_first, before_first, after_first, position_or_len, join_with_byte, list_all, starts_with}
+use Rattle.std.proofs.lemmas.List.{length-map, take_rest}
 use Rattle.std.proofs.lemmas.List.Splits.{join_with_byte-slice_split, length-slice_split}
 use Rattle.std.proofs.lemmas.Str.{IsUtf8-from_ascii}
 use Rattle.std.proofs.lemmas.Str.Ascii.{IsAscii-nil, IsAscii-cons}
-use Rattle.std.proofs.lemmas.Bool.{and_parts, and_right, ne_eqb, false≢true}
+use Rattle.std.proofs.lemmas.Bool.{and_parts, and_left, and_right, and_from, le-leb, lt-leb, ne_eqb, false≢true}
 use Rattle.std.proofs.lemmas.Bool.Decides.{nat_tests}
-use Rattle.qe_base.specs.Accepted.{is_letter, is_word, is_name}
-use Rattle.psl_schema.specs.Plain.{parts, lines, words, field_of, fields_of, is_end, is_close, all_some, name_of, model_name}
+use Rattle.qe_base.specs.Accepted.{is_letter, is_word, is_name, is_accepted, is_plain_model}
+use Rattle.qe_base.specs.declared.schema.Table.{Table}
+use Rattle.psl_schema.specs.Plain.{parts, lines, words, field_of, fields_of, is_end, is_close, all_some, name_of, model_name, accepted_of, table_of, column_of, body_of, heading}
 use Rattle.psl_schema.specs.declared.form.FieldLine.{FieldLine}
 
 -- a lone part is the text
@@ -164,3 +166,27 @@ misnamed_words keyword name (brace ∷ more ∷ braces) other = refl
 -- a first word that isn't the keyword makes no model
 pub misnamed : (keyword name brace : List ℕ) → bytes_eq keyword (codes "model") ≡ false → model_name (keyword ∷ name ∷ words brace) ≡ None
 misnamed keyword name brace other = misnamed_words keyword name (words brace) other
+
+and_true : (b : Bool) → (b && true) ≡ b
+and_true true = refl
+and_true false = refl
+
+-- a table alone is accepted where it is a model
+pub lone_accepted : (table : Table) → is_accepted (table ∷ []) [] [] [] ≡ is_plain_model table
+lone_accepted table = and_true (is_plain_model table)
+
+overfull : (table : Table) → 128 < length table.columns → is_plain_model table ≡ false
+overfull table many = and_left _ _ (and_left _ _ (and_left _ _ (and_right _ _ (lt-leb (length table.columns) 128 many))))
+
+-- more fields than a model may have make no accepted schema
+pub too_many : (name : List ℕ) (fields : List FieldLine) → 128 < length fields → accepted_of (table_of name fields) ≡ None
+too_many name fields many =
+    let counted = length-map fields column_of in
+    let refused = lone_accepted (table_of name fields) ∙ overfull (table_of name fields) (omega (arith, counted)) in
+    ap (λ accepted. if accepted then Some (table_of name fields) else None) refused
+
+-- the rest of a text is what stands behind its heading
+pub body_read : (text : List ℕ) → length text ≤ 1048576 → starts_with nat_eq text heading ≡ true → Some (take (length text - 61) (drop 61 text)) ≡ body_of text
+body_read text short headed =
+    ap Some (take_rest text 61)
+    ∙ sym (ap (λ reads. if reads then Some (drop 61 text) else None) (and_from (nat_le (length text) 1048576) (starts_with nat_eq text heading) (le-leb (length text) 1048576 short) headed))

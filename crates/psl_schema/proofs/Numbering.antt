@@ -1,5 +1,5 @@
 -- One more field of a table.
-use Rattle.std.proofs.Common.{◌≡◌, ◌<◌, ◌+◌, ℕ, Bool, true, false, cond, List, ◌∷◌, length, get_or, drop, map, filter, ap, ◌∙◌, sym}
+use Rattle.std.proofs.Common.{◌≡◌, ◌<◌, ◌+◌, ℕ, true, false, cond, List, ◌∷◌, length, get_or, drop, map, filter, ap, ◌∙◌, sym}
 use Rattle.std.specs.List.{enumerate_from}
 use Rattle.std.proofs.lemmas.List.{drop_more}
 use Rattle.psl_schema.specs.Plain.{key_of, scalar_of}

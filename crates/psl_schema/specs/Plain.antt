@@ -91,15 +91,19 @@ abbrev pub table_of : List ℕ → List FieldLine → Table
 table_of name fields =
     record { name = name; stored = name; link = false; columns = map column_of fields; keys = map key_of (filter (λ field. field.1.is_id) (enumerate_from 0 fields)); fields = map scalar_of (enumerate_from 0 fields); indexes = [] }
 
--- the table alone, if it makes an accepted schema
-abbrev pub accepted_of : Table → Option (List Table)
-accepted_of table = if is_accepted (table ∷ []) [] [] [] then Some (table ∷ []) else None
+-- the table, if alone it makes an accepted schema
+abbrev pub accepted_of : Table → Option Table
+accepted_of table = if is_accepted (table ∷ []) [] [] [] then Some table else None
 
--- the table of the model's line and its field lines
-abbrev pub model_of : List (List ℕ) → Option (List Table)
+-- the table that the model's line and its field lines make
+abbrev pub model_of : List (List ℕ) → Option Table
 model_of [] = None
 model_of (line ∷ rest) = option_and_then (λ name. option_and_then (λ fields. accepted_of (table_of name fields)) (fields_of rest)) (model_name (words line))
 
--- the tables of a text of the plain form, which has at most 1,048,576 bytes
+-- what stands behind the heading, in a text of at most 1,048,576 bytes
+abbrev pub body_of : List ℕ → Option (List ℕ)
+body_of text = if nat_le (length text) 1048576 && starts_with nat_eq text heading then Some (drop (length heading) text) else None
+
+-- the tables of a text of the plain form
 abbrev pub plain_of : List ℕ → Option (List Table)
-plain_of text = if nat_le (length text) 1048576 && starts_with nat_eq text heading then model_of (lines (drop (length heading) text)) else None
+plain_of text = option_and_then (λ body. option_map (λ table. table ∷ []) (model_of (lines body))) (body_of text)

@@ -9,11 +9,24 @@ use qe_base::{Column, Key, Table, Text};
 
 /// The most columns that a model has.
 pub const MOST_COLUMNS: usize = 128;
+
 const NUL: u8 = 0;
+
 const QUOTE: u8 = b'"';
+
 const RESERVED_NAMES: [&str; 10] = [
-    "String", "Boolean", "Int", "BigInt", "Float", "Decimal", "DateTime", "Json", "Bytes", "Unsupported",
+    "String",
+    "Boolean",
+    "Int",
+    "BigInt",
+    "Float",
+    "Decimal",
+    "DateTime",
+    "Json",
+    "Bytes",
+    "Unsupported",
 ];
+
 const FILTER_NAMES: [&str; 3] = ["AND", "OR", "NOT"];
 
 fn is_letter(byte: u8) -> bool
@@ -151,6 +164,7 @@ fn has_filter_name(columns: &[Column]) -> bool
     columns.iter().any(|column| is_filter_name(&column.name))
 }
 
+#[tactic(auto, using(crate::proofs::Names::names_step))]
 fn are_column_names(columns: &[Column]) -> bool
     ensures { result ≡ are_column_names (map (λ column. column.name) columns.now) }
 {

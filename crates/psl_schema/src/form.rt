@@ -1,10 +1,13 @@
 //! Reading a text of the plain form.
-ghost use Rattle.std.specs.Prelude.{◌≡◌, [], None, Some, IfOk};
-ghost use Rattle.psl_schema.specs.Plain.{Answers, words, name_of, kind_of, field_with, field_of, fields_of, lines, model_name};
+ghost use Rattle.std.specs.Prelude.{◌≡◌, [], ◌∷◌, true, IfOk};
+ghost use Rattle.std.specs.Option.{option_copied};
+ghost use Rattle.qe_base.specs.Accepted.{is_accepted};
+ghost use Rattle.psl_schema.specs.Plain.{Answers, words, name_of, kind_of, field_with, field_of, fields_of, lines, model_name, accepted_of, table_of, model_of, body_of, plain_of};
 
-use crate::accept::is_name;
+use crate::accept::{MOST_COLUMNS, is_name, is_plain_model};
 use crate::cut::cut;
-use qe_base::{Items, Kind, Memory, Text};
+use crate::tables::table;
+use qe_base::{Items, Kind, Memory, Schema, Table, Text};
 use std::alloc::{AllocError, AllocFailed, Global};
 
 /// Why a text gives no schema.
@@ -45,11 +48,20 @@ pub struct FieldLine {
     pub is_id: bool,
 }
 
+const MOST_BYTES: usize = 1_048_576;
+
+const HEADING: &[u8] = b"datasource d {\nprovider = \"sqlite\"\nrelationMode = \"prisma\"\n}\n";
+
 const ID_MARK: &[u8] = b"@id";
+
 const INT: &[u8] = b"Int";
+
 const STRING: &[u8] = b"String";
+
 const MODEL: &[u8] = b"model";
+
 const OPEN: &[u8] = b"{";
+
 const CLOSE: &[u8] = b"}";
 
 #[tactic(auto, using(crate::proofs::Forms::name_utf8))]
@@ -131,7 +143,11 @@ fn field_lines(alloc: Global, text: &[u8]) -> Result<Items<FieldLine>, PlainFaul
     let mut rest = text;
     'lines: while let Some((line, after)) = cut(rest, b'\n') {
         if line == CLOSE {
-            return if after.is_empty() { Ok(fields) } else { Err(PlainFault::Unbuilt) };
+            return if after.is_empty() {
+                Ok(fields)
+            } else {
+                Err(PlainFault::Unbuilt)
+            };
         }
         fields.push(field_line(alloc, line)?)?;
         rest = after;
@@ -139,4 +155,65 @@ fn field_lines(alloc: Global, text: &[u8]) -> Result<Items<FieldLine>, PlainFaul
     Err(PlainFault::Unbuilt)
 }
 
-pub fn plain() {}
+#[tactic(auto, using(crate::proofs::Forms::too_many, crate::proofs::Forms::lone_accepted))]
+fn accepted_table(alloc: Global, name: Text, fields: &[FieldLine]) -> Result<Table, PlainFault>
+    ensures told { Answers (accepted_of (table_of name fields.now)) result }
+    ensures accepted { IfOk result (λ table. is_accepted (table ∷ []) [] [] [] ≡ true) }
+{
+    if fields.len() > MOST_COLUMNS {
+        return Err(PlainFault::Unbuilt);
+    }
+    let table = table(alloc, name, fields)?;
+    if is_plain_model(&table) {
+        Ok(table)
+    } else {
+        Err(PlainFault::Unbuilt)
+    }
+}
+
+#[tactic(auto, using(crate::proofs::Forms::none_after))]
+fn model(alloc: Global, text: &[u8]) -> Result<Table, PlainFault>
+    ensures told { Answers (model_of (lines text.now)) result }
+    ensures accepted { IfOk result (λ table. is_accepted (table ∷ []) [] [] [] ≡ true) }
+{
+    let Some((line, rest)) = cut(text, b'\n') else {
+        return Err(PlainFault::Unbuilt);
+    };
+    let name = model_line(alloc, line)?;
+    let fields = field_lines(alloc, rest)?;
+    accepted_table(alloc, name, fields.as_slice())
+}
+
+#[tactic(auto, using(crate::proofs::Forms::body_read))]
+fn body(text: &[u8]) -> Option<&[u8]>
+    ensures { option_copied result ≡ body_of text.now }
+{
+    if text.len() <= MOST_BYTES && text.starts_with(HEADING) {
+        Some(&text[HEADING.len()..])
+    } else {
+        None
+    }
+}
+
+/// The schema of a text of the plain form. Want of memory aside, it is refused just where the text
+/// isn't of that form.
+pub fn plain(alloc: Global, text: &[u8]) -> Result<Schema, PlainFault>
+    ensures tables { IfOk result (λ schema. plain_of text.now ≡ Some schema.tables) }
+    ensures relations { IfOk result (λ schema. schema.relations ≡ []) }
+    ensures links { IfOk result (λ schema. schema.links ≡ []) }
+    ensures choices { IfOk result (λ schema. schema.choices ≡ []) }
+    ensures unbuilt { result ≡ Err PlainFault.Unbuilt → plain_of text.now ≡ None }
+{
+    let Some(body) = body(text) else {
+        return Err(PlainFault::Unbuilt);
+    };
+    let table = model(alloc, body)?;
+    let mut tables = Items::new(alloc);
+    tables.push(table)?;
+    Ok(Schema {
+        tables,
+        relations: Items::new(alloc),
+        links: Items::new(alloc),
+        choices: Items::new(alloc),
+    })
+}

@@ -6,5 +6,4 @@ mod cut;
 mod form;
 mod tables;
 
-
 pub use form::{PlainFault, plain};
