@@ -91,7 +91,8 @@ abbrev pub table_of : List ℕ → List FieldLine → Table
 table_of name fields =
     record { name = name; stored = name; link = false; columns = map column_of fields; keys = map key_of (filter (λ field. field.1.is_id) (enumerate_from 0 fields)); fields = map scalar_of (enumerate_from 0 fields); indexes = [] }
 
--- the table, if alone it makes an accepted schema
+-- the table, if alone it makes an accepted schema: its names are allowed, it has at most 128 columns,
+-- and just one of them is the id
 abbrev pub accepted_of : Table → Option Table
 accepted_of table = if is_accepted (table ∷ []) [] [] [] then Some table else None
 

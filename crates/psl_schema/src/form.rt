@@ -8,7 +8,7 @@ use crate::accept::{MOST_COLUMNS, is_name, is_plain_model};
 use crate::cut::cut;
 use crate::tables::table;
 use qe_base::{Items, Kind, Memory, Schema, Table, Text};
-use std::alloc::{AllocError, AllocFailed, Global};
+use std::alloc::{AllocError, Global};
 
 /// Why a text gives no schema.
 #[derive(Clone, Copy, Debug, PartialEq, Eq)]

@@ -5,5 +5,7 @@ mod accept;
 mod cut;
 mod form;
 mod tables;
+#[cfg(test)]
+mod tests;
 
 pub use form::{PlainFault, plain};
