@@ -11,7 +11,7 @@ mod text;
 mod value;
 mod write;
 
-pub use answer::{Answer, OpFault, Outside, Rule, Why};
+pub use answer::{Answer, OpFault, Outside, Rule};
 pub use outside::{Failed, FetchFault, Host, Sink, Source};
 pub use query::{
     Child, Filter, Like, Look, OrderBy, OrderEnd, Page, Pick, Quant, Test, Unique,
