@@ -93,3 +93,30 @@ fn take_pieces<H: Host>(
     }
     LinesEnd::LongInput
 }
+
+/// Takes all lines of an input.
+pub fn take_input<H: Host>(
+    alloc: Global,
+    schema: &Schema,
+    tables: &mut MemConnector,
+    host: &mut H,
+) -> LinesEnd
+    requires { IsKeptFor schema.now tables.old }
+    ensures ends { EndsRun result schema.now (tables_of tables.old) (tables_of tables.new) (H.left host.old) (H.left host.new) (H.taken host.old) (H.taken host.new) }
+    ensures read_cause { HasCause (H.read_may_fail host.old) (H.read_faults host.old) (H.read_faults host.new) (result ≡ LinesEnd.ReadFault) }
+    ensures write_cause { HasCause (H.write_may_fail host.old) (H.write_faults host.old) (H.write_faults host.new) (result ≡ LinesEnd.WriteFault) }
+    ensures sure { (H.read_may_fail host.old ≡ false → H.read_may_fail host.new ≡ false) × (H.write_may_fail host.old ≡ false → H.write_may_fail host.new ≡ false) }
+    ensures files { (H.files host.new ≡ H.files host.old) × (H.fetch_faults host.new ≡ H.fetch_faults host.old) × (H.is_steady host.new ≡ H.is_steady host.old) }
+{
+    let Ok(mut piece) = new_piece(alloc) else {
+        return LinesEnd::Memory;
+    };
+    take_pieces(alloc, schema, tables, piece.as_mut_slice(), host)
+}
+
+/// A buffer for one read.
+fn new_piece(alloc: Global) -> Result<Vec<u8>, Memory>
+    ensures { IfOk result (λ piece. 0 < length piece.items) }
+{
+    Ok(vec![in alloc; 0; PIECE]?)
+}

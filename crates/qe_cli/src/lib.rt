@@ -2,9 +2,12 @@
 #![tactic(auto)]
 
 mod answer;
+mod commands;
 mod host;
 mod input;
 mod take;
+
+pub use commands::{command, offline};
 
 /// Why taking lines stopped.
 #[derive(Clone, Copy, Debug, PartialEq, Eq)]
@@ -24,4 +27,21 @@ pub enum LinesEnd {
     ReadFault,
     WriteFault,
     Memory,
+}
+
+/// How a command ends.
+#[derive(Clone, Copy, Debug, PartialEq, Eq)]
+pub enum End {
+    /// It was carried out.
+    Done,
+    /// The words are no command.
+    Usage,
+    /// The schema's text isn't of the form that is read so far.
+    Unbuilt,
+    FetchFault,
+    ReadFault,
+    WriteFault,
+    Memory,
+    /// The input has more than 67,108,864 bytes.
+    LongInput,
 }
