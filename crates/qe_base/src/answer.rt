@@ -1,5 +1,8 @@
 //! What operations answer, and why they are refused.
-use crate::text::Text;
+ghost use Rattle.std.specs.Prelude.{◌≡◌};
+ghost use Rattle.qe_base.specs.declared.answer.OpFault.TheVariants as fault;
+
+use crate::text::{Memory, Text};
 use crate::value::{Kind, TableId, Value};
 use sqlite_items::Items;
 
@@ -35,4 +38,12 @@ pub enum Rule {
 pub enum OpFault {
     Rule(Rule),
     Memory,
+}
+
+impl From<Memory> for OpFault {
+    ghost from_gives = { λ _ e. e ≡ fault.Memory };
+
+    fn from(_: Memory) -> OpFault {
+        OpFault::Memory
+    }
 }

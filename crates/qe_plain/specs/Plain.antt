@@ -37,19 +37,19 @@ abbrev pub missing : ℕ → Bool → Result Answer Rule
 missing table false = Ok answer.Null
 missing table true = Err (rule.Absent (record { 0 = table }))
 
-abbrev pub shown : Schema → ℕ → Bool → Pick → Option Row → Result Answer Rule
-shown schema table strict pick None = missing table strict
-shown schema table strict pick (Some row) = Ok (shape_of (table_at schema table) pick row)
+abbrev pub shown : Table → ℕ → Bool → Pick → Option Row → Result Answer Rule
+shown model table strict pick None = missing table strict
+shown model table strict pick (Some row) = Ok (shape_of model pick row)
 
 -- a written row is answered over the new tables; a refusal leaves the old ones
-abbrev pub written : Schema → ℕ → Pick → Row → Tables → Result Tables Rule → Done
-written schema table pick row before (Ok after) = record { answer = Ok (shape_of (table_at schema table) pick row); tables = after }
-written schema table pick row before (Err broken) = record { answer = Err broken; tables = before }
+abbrev pub written : Table → Pick → Row → Tables → Result Tables Rule → Done
+written model pick row before (Ok after) = record { answer = Ok (shape_of model pick row); tables = after }
+written model pick row before (Err broken) = record { answer = Err broken; tables = before }
 
 abbrev pub created : Schema → ℕ → Pick → Row → Tables → Done
-created schema table pick row tables = written schema table pick row tables (put_of schema table row tables)
+created schema table pick row tables = written (table_at schema table) pick row tables (put_of schema table row tables)
 
 -- an operation by itself
 abbrev pub plain : Schema → Op → Outside → Tables → Done
-plain schema (op.FindUnique table at strict pick) outside tables = record { answer = shown schema table.0 strict pick (row_with (table_at schema table.0) at (tables.rows table.0)); tables = tables }
+plain schema (op.FindUnique table at strict pick) outside tables = record { answer = shown (table_at schema table.0) table.0 strict pick (row_with (table_at schema table.0) at (tables.rows table.0)); tables = tables }
 plain schema (op.Create table tree pick) outside tables = created schema table.0 pick (filled (table_at schema table.0).columns (out-Create tree).values) tables

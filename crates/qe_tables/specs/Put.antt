@@ -26,9 +26,13 @@ given_for column given = option_map (λ one. one.1) (find (λ one. one.0 == colu
 abbrev pub fill_value : Fill → Value
 fill_value Absent = Null
 
--- a new row: each column's given value, else its fill
+-- a column's given value, else its fill
+abbrev pub value_of : List (ℕ × Value) → (ℕ × Column) → Value
+value_of given numbered = unwrap_or (given_for numbered.0 given) (fill_value numbered.1.fill)
+
+-- a new row, column by column
 abbrev pub filled : List Column → List (ℕ × Value) → Row
-filled columns given = record { values = map (λ numbered. unwrap_or (given_for numbered.0 given) (fill_value numbered.1.fill)) (enumerate_from 0 columns) }
+filled columns given = record { values = map (value_of given) (enumerate_from 0 columns) }
 
 abbrev pub first_broken : Bool → ℕ → Option ℕ → Option ℕ
 first_broken true number later = Some number
