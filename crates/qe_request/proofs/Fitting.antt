@@ -1,5 +1,5 @@
 -- The operation of a request fits the schema.
-use Rattle.std.proofs.Common.{◌≡◌, ℕ, suc, ◌+◌, ◌<◌, ◌≤◌, List, [], ◌∷◌, map, length, Bool, true, false, ◌&&◌, nat_eq, nat_lt, not, codes, bytes_eq, Option, Some, None, option_map, option_and_then, slice_get, refl, sym, ap, ◌∙◌, subst, arith}
+use Rattle.std.proofs.Common.{◌≡◌, ℕ, ◌<◌, List, [], ◌∷◌, map, length, Bool, true, false, ◌&&◌, nat_lt, not, codes, bytes_eq, Option, Some, None, option_and_then, slice_get, refl, sym, ap, ◌∙◌, subst, arith}
 use Rattle.std.specs.Prelude.{if◌then◌else◌, position, ◌==◌}
 use Rattle.std.specs.List.{list_all, enumerate_from}
 use Rattle.std.proofs.lemmas.Bool.{and_from, lt-ltb}
@@ -33,10 +33,10 @@ use Rattle.qe_tables.specs.Columns.{is_null}
 use Rattle.qe_tables.specs.Fits.{fit_columns}
 use Rattle.qe_tables.specs.Put.{filled}
 use Rattle.qe_plain.specs.Fits.{is_given_right, asks_nothing, column_takes, are_key_values, names_key, unique_fits, pick_fits, create_fits, op_fits}
-use Rattle.qe_forms.specs.Request.{alone, value_of, all_of, given_in, values_of, whole_pick, create_of, value_at_column, find_by, find_of, op_of, text_at, request_of, Asked, asks, asked_by, asked_in, asked_of, json_of, is_object_of}
+use Rattle.qe_forms.specs.Request.{alone, value_of, all_of, given_in, values_of, whole_pick, create_of, value_at_column, find_by, find_of, op_of, text_at, request_of, asks, asked_by, asked_in, asked_of, json_of, is_object_of}
 use Rattle.qe_request.proofs.Given.{then_some, map_some, if_some}
-use Rattle.qe_request.proofs.Plain.{IsPlain, plain_at}
-use Rattle.qe_request.proofs.Rows.{Fitting, fitting, given_right, covers, filled_fits, numbers_within}
+use Rattle.qe_request.proofs.Plain.{plain_at}
+use Rattle.qe_request.proofs.Rows.{fitting, given_right, covers, filled_fits, numbers_within}
 
 abbrev columns_alone : Table → Pick-F Child Pick → Bool
 columns_alone table pick = list_all (λ column. nat_lt column (length table.columns)) pick.columns && length pick.counts == 0 && length pick.children == 0

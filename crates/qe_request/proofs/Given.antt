@@ -1,7 +1,6 @@
 -- Values that are found one after another, and what is left where steps are chained.
-use Rattle.std.proofs.Common.{◌≡◌, List, [], ◌∷◌, ◌++◌, Bool, true, false, Option, Some, None, option_map, option_and_then, refl, sym, ap, ◌∙◌, append_assoc}
+use Rattle.std.proofs.Common.{◌≡◌, List, [], ◌∷◌, ◌++◌, Bool, true, false, Option, Some, None, option_map, option_and_then, refl, sym, ap, append_assoc}
 use Rattle.std.specs.Prelude.{if◌then◌else◌}
-use Rattle.qe_forms.specs.Request.{all_of}
 
 -- what is found of the first, before what is found of the rest
 pub all_more : {A : Type 0} (done : List A) (first : A) (rest : Option (List A)) → option_map (λ others. done ++ others) (option_map (λ others. first ∷ others) rest) ≡ option_map (λ others. (done ++ first ∷ []) ++ others) rest

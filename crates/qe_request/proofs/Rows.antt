@@ -1,6 +1,6 @@
 -- The values of a request, one for each column, make up a row that fits the table.
-use Rattle.std.proofs.Common.{◌≡◌, ℕ, zero, suc, ◌+◌, ◌<◌, ◌≤◌, ℤ, List, [], ◌∷◌, map, length, Bool, true, false, ◌&&◌, nat_eq, nat_lt, Option, Some, None, option_map, option_and_then, slice_get, refl, sym, ap, ◌∙◌, subst, arith, add-zero}
-use Rattle.std.specs.Prelude.{if◌then◌else◌, unwrap_or, find}
+use Rattle.std.proofs.Common.{◌≡◌, ℕ, zero, suc, ◌+◌, ◌≤◌, List, [], ◌∷◌, map, length, true, false, nat_eq, nat_lt, Option, Some, option_map, option_and_then, slice_get, refl, sym, ap, ◌∙◌, subst, arith, add-zero}
+use Rattle.std.specs.Prelude.{unwrap_or}
 use Rattle.std.specs.List.{list_all, enumerate_from}
 use Rattle.std.proofs.lemmas.Bool.{and_from}
 use Rattle.std.proofs.lemmas.Bool.Decides.{nat_tests}
@@ -13,7 +13,7 @@ use Rattle.qe_base.specs.declared.value.Value.TheVariants as value
 use Rattle.qe_base.specs.declared.schema.Column.{Column}
 use Rattle.qe_tables.specs.Columns.{is_null}
 use Rattle.qe_tables.specs.Fits.{is_small, is_of_kind, fits_column, fit_columns}
-use Rattle.qe_tables.specs.Put.{given_for, filled, fill_value}
+use Rattle.qe_tables.specs.Put.{given_for, fill_value}
 use Rattle.qe_plain.specs.Fits.{column_takes, is_given_right}
 use Rattle.qe_forms.specs.Request.{small_number, value_of, all_of, given_in}
 use Rattle.qe_request.proofs.Given.{then_some, map_some, if_some}

@@ -5,5 +5,7 @@ mod lines;
 mod members;
 mod operations;
 mod scalars;
+#[cfg(test)]
+mod tests;
 
 pub use lines::{LineFault, read_line};

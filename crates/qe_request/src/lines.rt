@@ -42,7 +42,8 @@ fn json_in(alloc: Global, text: &[u8]) -> Result<Option<Json>, Memory>
     }
 }
 
-/// The operation that a line asks for.
+/// The operation that a line asks for, which fits the schema. Want of memory aside, it is refused just
+/// where the line isn't JSON, or is no request that is carried out yet.
 pub fn read_line(alloc: Global, schema: &Schema, text: &[u8]) -> Result<Op, LineFault>
     ensures ok { IfOk result (λ op. asked_of schema.now text.now ≡ asks op) }
     ensures fits { IfOk result (λ op. IsTrue (op_fits schema.now op)) }

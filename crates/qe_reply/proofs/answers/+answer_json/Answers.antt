@@ -1,8 +1,8 @@
-use Rattle.std.proofs.Common.{◌≡◌, ℕ, List, map, ap, sym, ◌∙◌}
-use Rattle.serde_json.specs.Data.{object, no_members}
+use Rattle.std.proofs.Common.{ℕ, List, map, ap, sym, ◌∙◌}
+use Rattle.serde_json.specs.Data.{object}
 use Rattle.serde_json.proofs.Views.{view-Object}
 use Rattle.qe_base.specs.declared.answer.Answer.{Answer}
-use Rattle.qe_forms.specs.Reply.{answer_data, put_all, object_of}
+use Rattle.qe_forms.specs.Reply.{answer_data, object_of}
 use Rattle.qe_reply.proofs.Whole.{answer_object}
 use Rattle.qe_reply.proofs.answers.+answer_json.Goals as goal
 
