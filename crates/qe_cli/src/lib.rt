@@ -3,7 +3,12 @@
 
 mod answer;
 mod host;
+mod real;
 mod take;
+#[cfg(test)]
+mod tests;
+
+pub use real::StdHost;
 
 /// Why taking lines stopped.
 #[derive(Clone, Copy, Debug, PartialEq, Eq)]

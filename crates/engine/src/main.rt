@@ -1,0 +1,37 @@
+//! The engine as a program: its words are a command, carried out over the system's input, output
+//! and files.
+#![tactic(auto)]
+
+use qe_cli::StdHost;
+use std::alloc::Global;
+use std::env;
+use std::io::{self, ErrorKind};
+use std::process::ExitCode;
+
+/// Stands in for `qe_cli::command`.
+fn command(_alloc: Global, _words: &[String], _host: &mut StdHost) -> u8 {
+    0
+}
+
+/// The program's name and the words after it.
+fn words(rt: &HostRuntime) -> io::Result<Vec<String>> {
+    Ok(env::args(rt)?.collect(rt.alloc())?)
+}
+
+/// Ends a program whose words can't be had: they are no texts, or memory is short.
+fn refuse(rt: &HostRuntime, why: ErrorKind) -> u8 {
+    let (line, status) = match why {
+        ErrorKind::OutOfMemory => ("memory", 5),
+        _ => ("usage", 2),
+    };
+    let _ = rt.println(line);
+    status
+}
+
+fn main(rt: HostRuntime) -> ExitCode {
+    let status = match words(&rt) {
+        Ok(words) => command(rt.alloc(), words.as_slice(), &mut StdHost::new(rt)),
+        Err(error) => refuse(&rt, error.kind()),
+    };
+    ExitCode::from(status)
+}
