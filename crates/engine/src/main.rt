@@ -2,6 +2,8 @@
 //! and files.
 #![tactic(auto)]
 
+ghost use Rattle.std.specs.Prelude.{◌≡◌, ◌≢◌};
+
 use qe_cli::StdHost;
 use std::alloc::Global;
 use std::env;
@@ -18,8 +20,11 @@ fn words(rt: &HostRuntime) -> io::Result<Vec<String>> {
     Ok(env::args(rt)?.collect(rt.alloc())?)
 }
 
-/// Ends a program whose words can't be had: they are no texts, or memory is short.
-fn refuse(rt: &HostRuntime, why: ErrorKind) -> u8 {
+/// Says why the words can't be had, and gives the status: memory is short, or they are no texts.
+fn refuse(rt: &HostRuntime, why: ErrorKind) -> u8
+    ensures memory { why ≡ ErrorKind.OutOfMemory → result ≡ 5 }
+    ensures usage { why ≢ ErrorKind.OutOfMemory → result ≡ 2 }
+{
     let (line, status) = match why {
         ErrorKind::OutOfMemory => ("memory", 5),
         _ => ("usage", 2),
