@@ -6,7 +6,7 @@ use Rattle.qe_exchange.specs.Lines.{is_blank, lines_of}
 use Rattle.std.specs.Prelude.{Result, Ok, Err, IfErr, IsErrAnd}
 use Rattle.qe_cli.specs.declared.Stop.{Stop}
 use Rattle.qe_cli.specs.declared.Stop.TheVariants as stop
-use Rattle.qe_cli.specs.Ends.{Takes, Stops, PartOf}
+use Rattle.qe_cli.specs.Ends.{Takes, Stops, PartOf, cuts}
 use Rattle.qe_cli.specs.Kept.{Appends, AppendsPart}
 use Rattle.qe_cli.specs.Run.{Answers, LineTaken, LineStopped, Runs, has_newline}
 use Rattle.qe_cli.proofs.Runs.{or_left, or_right, lines_line, unless_blank, runs_none, runs_more, runs_one}
@@ -55,7 +55,7 @@ takes_line schema stream pending line rest before between after taken now next o
     taken_at (is_blank (pending ++ line)) schema stream (pending ++ line) rest before between after taken now next t.done t.bytes t.runs t.appended (next_line schema stream pending line rest before between taken now one t) line_taken
 
 -- memory was short
-pub stops_short : (schema : Schema) (stream : List ℕ → List ℕ) (pending : List ℕ) (before between : Tables) (taken now : Option (List ℕ)) → Takes schema stream pending before between taken now → Stops stop.Memory schema stream before taken now
+pub stops_short : (schema : Schema) (stream : List ℕ → List ℕ) (pending : List ℕ) (before between : Tables) (taken now : Option (List ℕ)) → Takes schema stream pending before between taken now → Stops false schema stream before taken now
 stops_short schema stream pending before between taken now t = record {
   done = t.done;
   bytes = t.bytes;
@@ -83,7 +83,7 @@ pub one_more : (pending line whole : List ℕ) → has_newline pending ≡ false
 one_more pending line whole first second is = ap has_newline is ∙ both_kept pending line first second
 
 stopped_at : (schema : Schema) (stream : List ℕ → List ℕ) (whole rest : List ℕ) (before between after : Tables) (taken now next : Option (List ℕ)) (done : List (List ℕ)) (bytes : List ℕ) → Runs schema done before bytes between → Appends taken now bytes
-    → ((later : List ℕ) → lines_of (stream later) ≡ (done ++ unless_blank (is_blank whole) whole) ++ lines_of (rest ++ later)) → LineStopped schema whole between after now next → is_blank whole ≡ false → Stops stop.Write schema stream before taken next
+    → ((later : List ℕ) → lines_of (stream later) ≡ (done ++ unless_blank (is_blank whole) whole) ++ lines_of (rest ++ later)) → LineStopped schema whole between after now next → is_blank whole ≡ false → Stops true schema stream before taken next
 stopped_at schema stream whole rest before between after taken now next done bytes runs appended lines stopped some = record {
   done = done;
   bytes = bytes;
@@ -101,26 +101,26 @@ stopped_at schema stream whole rest before between after taken now next done byt
 
 -- a write failed in the next line
 pub stops_line : (schema : Schema) (stream : List ℕ → List ℕ) (pending whole rest line later : List ℕ) (before between after : Tables) (taken now next : Option (List ℕ)) → has_newline pending ≡ false → rest ≡ line ++ 10 ∷ later → has_newline line ≡ false → whole ≡ pending ++ line
-    → Takes schema stream (pending ++ rest) before between taken now → LineStopped schema whole between after now next × (is_blank whole ≡ false) → Stops stop.Write schema stream before taken next
+    → Takes schema stream (pending ++ rest) before between taken now → LineStopped schema whole between after now next × (is_blank whole ≡ false) → Stops true schema stream before taken next
 stops_line schema stream pending whole rest line later before between after taken now next one rest_is line_one whole_is t stopped =
     stopped_at schema stream whole later before between after taken now next t.done t.bytes t.runs t.appended
     (λ l. subst (λ w. lines_of (stream l) ≡ (t.done ++ unless_blank (is_blank w) w) ++ lines_of (later ++ l)) (sym whole_is)
     (t.lines l ∙ ap (λ r. t.done ++ lines_of ((pending ++ r) ++ l)) rest_is ∙ ap (λ x. t.done ++ x) (ap lines_of (goes_on pending line later l) ∙ lines_line (pending ++ line) (later ++ l) (both_kept pending line one line_one)) ∙ sym (append_assoc t.done _ _)))
     stopped.0 stopped.1
 
-pub stops_append : {T : Type 0} (result : Result T Stop) (schema : Schema) (stream : List ℕ → List ℕ) (pending : List ℕ) (before between : Tables) (taken now : Option (List ℕ)) → Takes schema stream pending before between taken now → IfErr result (λ why. why ≡ stop.Memory) → IfErr result (λ why. Stops why schema stream before taken now)
+pub stops_append : {T : Type 0} (result : Result T Stop) (schema : Schema) (stream : List ℕ → List ℕ) (pending : List ℕ) (before between : Tables) (taken now : Option (List ℕ)) → Takes schema stream pending before between taken now → IfErr result (λ why. why ≡ stop.Memory) → IfErr result (λ why. Stops (cuts why) schema stream before taken now)
 stops_append (Ok x) schema stream pending before between taken now t is = tt
-stops_append (Err why) schema stream pending before between taken now t is = subst (λ w. Stops w schema stream before taken now) (sym is) (stops_short schema stream pending before between taken now t)
+stops_append (Err why) schema stream pending before between taken now t is = subst (λ w. Stops (cuts w) schema stream before taken now) (sym is) (stops_short schema stream pending before between taken now t)
 
 -- where a line stopped, the stream stopped
 pub stops_why : (why : Stop) (schema : Schema) (stream : List ℕ → List ℕ) (pending whole rest line later : List ℕ) (before between after : Tables) (taken now next : Option (List ℕ)) → has_newline pending ≡ false → rest ≡ line ++ 10 ∷ later → has_newline line ≡ false → whole ≡ pending ++ line
-    → Takes schema stream (pending ++ rest) before between taken now → (why ≡ stop.Write → LineStopped schema whole between after now next × (is_blank whole ≡ false)) → (why ≡ stop.Memory → next ≡ now) → Stops why schema stream before taken next
+    → Takes schema stream (pending ++ rest) before between taken now → (why ≡ stop.Write → LineStopped schema whole between after now next × (is_blank whole ≡ false)) → (why ≡ stop.Memory → next ≡ now) → Stops (cuts why) schema stream before taken next
 stops_why stop.Write schema stream pending whole rest line later before between after taken now next one rest_is line_one whole_is t write memory =
     stops_line schema stream pending whole rest line later before between after taken now next one rest_is line_one whole_is t (write refl)
 stops_why stop.Memory schema stream pending whole rest line later before between after taken now next one rest_is line_one whole_is t write memory =
     stops_short schema stream (pending ++ rest) before between taken next (subst (λ n. Takes schema stream (pending ++ rest) before between taken n) (sym (memory refl)) t)
 
 -- an error that was handed on
-pub stops_err : {T : Type 0} (result : Result T Stop) (e : Stop) (schema : Schema) (stream : List ℕ → List ℕ) (before : Tables) (taken now : Option (List ℕ)) → IsErrAnd result (λ why. why ≡ e) → Stops e schema stream before taken now → IfErr result (λ why. Stops why schema stream before taken now)
+pub stops_err : {T : Type 0} (result : Result T Stop) (e : Stop) (schema : Schema) (stream : List ℕ → List ℕ) (before : Tables) (taken now : Option (List ℕ)) → IsErrAnd result (λ why. why ≡ e) → Stops (cuts e) schema stream before taken now → IfErr result (λ why. Stops (cuts why) schema stream before taken now)
 stops_err (Ok x) e schema stream before taken now is stops = absurd is
-stops_err (Err why) e schema stream before taken now is stops = subst (λ w. Stops w schema stream before taken now) (sym is) stops
+stops_err (Err why) e schema stream before taken now is stops = subst (λ w. Stops (cuts w) schema stream before taken now) (sym is) stops

@@ -3,6 +3,7 @@
 
 mod answer;
 mod host;
+mod input;
 mod real;
 mod take;
 #[cfg(test)]
@@ -15,5 +16,17 @@ pub use real::StdHost;
 pub enum Stop {
     /// A write failed.
     Write,
+    Memory,
+}
+
+/// How the lines of an input ended.
+#[derive(Clone, Copy, Debug, PartialEq, Eq)]
+pub enum LinesEnd {
+    /// The input was read to its end.
+    Done,
+    /// The input has more than 67,108,864 bytes.
+    LongInput,
+    ReadFault,
+    WriteFault,
     Memory,
 }

@@ -3,7 +3,7 @@ ghost use Rattle.std.specs.Prelude.{◌≡◌, ◌++◌, ◌∷◌, OnOk, IfErr,
 ghost use Rattle.qe_base.specs.Causes.{HasCause};
 ghost use Rattle.qe_exchange.specs.Lines.{is_blank};
 ghost use Rattle.qe_ops.specs.Performs.{tables_of, IsKeptFor};
-ghost use Rattle.qe_cli.specs.Ends.{Takes, Stops};
+ghost use Rattle.qe_cli.specs.Ends.{Takes, Stops, cuts};
 ghost use Rattle.qe_cli.specs.Kept.{AppendsPart};
 ghost use Rattle.qe_cli.specs.Run.{Answers, LineTaken, LineStopped, has_newline};
 
@@ -94,7 +94,7 @@ pub fn take_lines<H: Host>(
     requires kept { IsKeptFor schema.now tables.old }
     ensures ok { OnOk result (Takes schema.now (λ later. pending.old.items ++ (bytes.now ++ later)) pending.new.items (tables_of tables.old) (tables_of tables.new) (H.taken host.old) (H.taken host.new)) }
     ensures one_line { OnOk result (has_newline pending.new.items ≡ false) }
-    ensures stops { IfErr result (λ why. Stops why schema.now (λ later. pending.old.items ++ (bytes.now ++ later)) (tables_of tables.old) (H.taken host.old) (H.taken host.new)) }
+    ensures stops { IfErr result (λ why. Stops (cuts why) schema.now (λ later. pending.old.items ++ (bytes.now ++ later)) (tables_of tables.old) (H.taken host.old) (H.taken host.new)) }
     ensures cause { HasCause (H.write_may_fail host.old) (H.write_faults host.old) (H.write_faults host.new) (IsErrOf result Stop.Write) }
     ensures sure { H.write_may_fail host.old ≡ false → H.write_may_fail host.new ≡ false }
     ensures input { (H.left host.new ≡ H.left host.old) × (H.read_faults host.new ≡ H.read_faults host.old) × (H.read_may_fail host.new ≡ H.read_may_fail host.old) }

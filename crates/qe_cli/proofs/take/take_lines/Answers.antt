@@ -2,7 +2,7 @@ use Rattle.std.proofs.Common.{rules, false, ◌≡◌, ◌++◌, ◌∙◌, refl
 use Rattle.qe_ops.specs.Performs.{tables_of}
 use Rattle.qe_exchange.specs.Lines.{is_blank}
 use Rattle.qe_cli.specs.Run.{LineTaken, has_newline}
-use Rattle.qe_cli.specs.Ends.{Stops, Takes}
+use Rattle.qe_cli.specs.Ends.{Stops, Takes, cuts}
 use Rattle.qe_cli.proofs.Taken.{takes_none, takes_next, stops_append, stops_short, stops_err, stops_why}
 use Rattle.qe_cli.proofs.take.take_lines.Goals as goal
 
@@ -24,7 +24,7 @@ lines-init g c = record {
 pub returns-in_err-append-clause-stops : goal.returns-in_err-append-clause-stops
 returns-in_err-append-clause-stops g c =
     stops_err _ c.in_err-append.field-0.0 _ _ _ _ _ c.from_residual.ensures.1
-    (subst (λ why. Stops why c.args.schema.now (λ later. c.args.pending.now.items ++ (c.args.bytes.now ++ later)) (tables_of c.args.tables.now) (g.H.Sink.taken c.args.host.now) (g.H.Sink.taken c.lines.host)) (sym c.in_err-append.ensures.err)
+    (subst (λ why. Stops (cuts why) c.args.schema.now (λ later. c.args.pending.now.items ++ (c.args.bytes.now ++ later)) (tables_of c.args.tables.now) (g.H.Sink.taken c.args.host.now) (g.H.Sink.taken c.lines.host)) (sym c.in_err-append.ensures.err)
     (stops_short _ _ _ _ _ _ _ c.lines.invariant.takes))
 
 pub returns-in_err-take_line-clause-stops : goal.returns-in_err-take_line-clause-stops
