@@ -2,3 +2,4 @@ pub mod Command
 pub mod Ends
 pub mod Kept
 pub mod Run
+pub mod RealHost

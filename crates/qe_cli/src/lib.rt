@@ -5,7 +5,12 @@ mod answer;
 mod commands;
 mod host;
 mod input;
+mod real;
 mod take;
+#[cfg(test)]
+mod tests;
+
+pub use real::StdHost;
 
 pub use commands::{command, offline};
 
