@@ -1,11 +1,11 @@
 -- A map by ids beside the list of its rows.
-use Rattle.std.proofs.Common.{◌≡◌, ℕ, ℤ, List, [], ◌∷◌, ◌++◌, map, filter, Option, Some, None, option_map, Bool, true, false, cond, refl, sym, ap, ◌∙◌, subst, Ordering, Less, Equal, Greater, is_some, is_eq, true≢false, ◌||◌}
+use Rattle.std.proofs.Common.{◌≡◌, ℕ, ℤ, List, [], ◌∷◌, ◌++◌, filter, Option, Some, None, Bool, true, false, cond, refl, sym, ap, ◌∙◌, subst, Ordering, Less, Equal, Greater, is_some, is_eq, true≢false, ◌||◌}
 use Rattle.std.specs.Prelude.{find}
 use Rattle.std.specs.List.{list_any, AllByRecursion}
 use Rattle.std.specs.List.Sorted.{IsStrictlySortedBy}
 use Rattle.std.specs.Map.{keys_of, lookup}
 use Rattle.std.specs.Ordering.{is_lt, is_gt, match_ordering, ordering_reverse}
-use Rattle.std.specs.Cmp.{IsTotalOrder, IsEquivalence}
+use Rattle.std.specs.Cmp.{IsTotalOrder}
 use Rattle.std.specs.BTreeMap.{insert_entry, is_at}
 use Rattle.qe_base.specs.Values.{value_cmp, value_eq}
 use Rattle.qe_base.specs.ValueOrder.{value_cmp_total, value_eq_equivalence}

@@ -7,6 +7,9 @@ ghost use Rattle.qe_tables.specs.Columns.{value_at};
 ghost use Rattle.qe_tables.specs.Put.{raised_to};
 ghost use Rattle.qe_mem.specs.Kept.{row_of_id, Inserts};
 
+#[cfg(test)]
+mod tests;
+
 use qe_base::{Memory, Row, Value};
 use std::alloc::Global;
 use std::collections::BTreeMap;

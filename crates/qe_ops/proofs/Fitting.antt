@@ -1,19 +1,18 @@
 -- What an operation that fits an accepted schema names.
-use Rattle.std.proofs.Common.{◌≡◌, ℕ, zero, suc, ◌<◌, ◌^◌, List, [], ◌∷◌, length, Option, Some, None, Bool, true, false, ◌&&◌, not, refl, sym, ap, ◌∙◌, subst, true≢false, nat_lt, arith, ◌==◌, eqb-true, ltb-true, leb-true, ◌≤◌}
+use Rattle.std.proofs.Common.{◌≡◌, ℕ, zero, suc, List, [], ◌∷◌, length, Some, Bool, true, false, not, refl, sym, ap, subst, true≢false, nat_lt, arith, ◌==◌, eqb-true, ltb-true, leb-true, ◌≤◌}
 use Rattle.std.specs.Prelude.{slice_get}
 use Rattle.std.specs.List.{list_all}
 use Rattle.std.proofs.lemmas.Bool.{and_parts}
-use Rattle.std.proofs.lemmas.Bool.Decides.{nat_tests}
-use Rattle.qe_base.specs.Accepted.{is_accepted, is_plain_model, is_plain_column, is_lone_id, is_lone_column}
+use Rattle.qe_base.specs.Accepted.{is_plain_model, is_plain_column, is_lone_id}
 use Rattle.qe_base.specs.declared.schema.Schema.{Schema}
 use Rattle.qe_base.specs.declared.schema.Table.{Table}
 use Rattle.qe_base.specs.declared.schema.Key.{Key}
 use Rattle.qe_base.specs.declared.schema.Column.{Column}
 use Rattle.qe_base.specs.declared.value.Value.{Value}
 use Rattle.qe_base.specs.declared.query.Unique.{Unique}
-use Rattle.qe_tables.specs.Tables.{table_at, no_table, id_columns, first_columns}
+use Rattle.qe_tables.specs.Tables.{id_columns, first_columns}
 use Rattle.qe_tables.specs.Columns.{is_null}
-use Rattle.qe_plain.specs.Fits.{op_fits, unique_fits, create_fits, names_key, are_key_values}
+use Rattle.qe_plain.specs.Fits.{unique_fits, names_key, are_key_values}
 
 -- There is one model.
 model_of : (tables : List Table) → length tables == 1 ≡ true → list_all is_plain_model tables ≡ true → (model : Table) × (tables ≡ model ∷ []) × (is_plain_model model ≡ true)

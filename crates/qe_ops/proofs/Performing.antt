@@ -1,6 +1,6 @@
 -- The documented rules, at a model whose id is one column.
-use Rattle.std.proofs.Common.{◌≡◌, ℕ, zero, suc, ◌<◌, ◌^◌, ℤ, List, [], ◌∷◌, ◌++◌, length, map, filter, Option, Some, None, unwrap_or, Bool, true, false, ◌&&◌, ◌||◌, not, cond, refl, sym, ap, ◌∙◌, subst, true≢false, nat_lt, arith, ◌==◌, if◌then◌else◌, Result, Ok, Err, ltb-true, is_some, Ordering, Less, Equal, Greater}
-use Rattle.std.specs.Prelude.{slice_get, find, pos, IsTrue}
+use Rattle.std.proofs.Common.{◌≡◌, ℕ, zero, suc, ◌<◌, ◌^◌, ℤ, List, [], ◌∷◌, ◌++◌, length, filter, Some, None, unwrap_or, Bool, true, false, ◌&&◌, ◌||◌, not, refl, sym, ap, ◌∙◌, subst, true≢false, nat_lt, arith, ◌==◌, if◌then◌else◌, Result, Ok, Err, ltb-true, is_some, Ordering, Less, Equal, Greater}
+use Rattle.std.specs.Prelude.{slice_get, find, pos}
 use Rattle.std.specs.List.{list_all, list_any}
 use Rattle.std.specs.Ordering.{is_lt, is_gt, ordering_then}
 use Rattle.std.proofs.lemmas.Bool.{and_parts}
@@ -33,7 +33,7 @@ use Rattle.qe_tables.specs.Tables.{Tables, table_at, no_table, first_columns, id
 use Rattle.qe_plain.specs.Fits.{op_fits, unique_fits, create_fits}
 use Rattle.qe_plain.specs.Plain.{Done, plain, shown, row_with, columns_of_key, created, written}
 use Rattle.qe_plain.specs.Shape.{shape_of}
-use Rattle.qe_mem.specs.Kept.{Kept, has_id, row_of_id, id_in, placed, Inserts}
+use Rattle.qe_mem.specs.Kept.{Kept, has_id, row_of_id, id_in, placed}
 use Rattle.qe_ops.specs.Performs.{tables_of, IsKeptFor, Performs, Finds, Creates}
 use Rattle.qe_ops.proofs.Fitting.{one_model, plain_parts, unique_of, key_of, number_zero}
 

@@ -1,18 +1,16 @@
 -- What an operation over tables in memory does.
-use Rattle.std.specs.Prelude.{◌≡◌, ℕ, ℤ, pos, List, [], ◌∷◌, Bool, true, false, ◌==◌, if◌then◌else◌, Result, Ok, Err}
+use Rattle.std.specs.Prelude.{◌≡◌, ℕ, pos, [], ◌∷◌, true, false, ◌==◌, if◌then◌else◌, Result, Ok, Err}
 use Rattle.qe_base.specs.declared.value.Row.{Row}
 use Rattle.qe_base.specs.declared.schema.Schema.{Schema}
 use Rattle.qe_base.specs.declared.schema.Table.{Table}
 use Rattle.qe_base.specs.declared.query.Pick.{Pick}
 use Rattle.qe_base.specs.declared.answer.Rule.{Rule}
 use Rattle.qe_base.specs.declared.answer.Rule.TheVariants as rule
-use Rattle.qe_base.specs.declared.write.Op.{Op}
 use Rattle.qe_base.specs.declared.answer.Answer.{Answer}
-use Rattle.qe_base.specs.declared.answer.Outside.{Outside}
 use Rattle.qe_base.specs.declared.answer.OpFault.{OpFault}
 use Rattle.qe_base.specs.declared.answer.OpFault.TheVariants as fault
 use Rattle.qe_tables.specs.Tables.{Tables, table_at, id_columns}
-use Rattle.qe_plain.specs.Plain.{Done, plain}
+use Rattle.qe_plain.specs.Plain.{Done}
 use Rattle.qe_plain.specs.Shape.{shape_of}
 use Rattle.qe_mem.specs.Kept.{Kept, Inserts}
 

@@ -4,5 +4,7 @@
 mod fill;
 mod run;
 mod shape;
+#[cfg(test)]
+mod tests;
 
 pub use run::run_op;

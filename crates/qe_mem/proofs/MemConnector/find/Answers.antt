@@ -1,4 +1,4 @@
-use Rattle.std.proofs.Common.{rules, ◌∙◌}
+use Rattle.std.proofs.Common.{◌∙◌}
 use Rattle.qe_mem.proofs.Placing.{lookup_row}
 use Rattle.qe_mem.proofs.MemConnector.find.Goals as goal
 

@@ -1,5 +1,5 @@
-use Rattle.std.proofs.Common.{◌≡◌, rules, ◌∙◌, sym, refl, ap, subst}
-use Rattle.qe_mem.specs.Kept.{Kept, HaveIds, id_in, rows_in, placed}
+use Rattle.std.proofs.Common.{rules, ◌∙◌, sym, refl, ap, subst}
+use Rattle.qe_mem.specs.Kept.{HaveIds, rows_in}
 use Rattle.qe_mem.proofs.Placing.{is_there, rows_in-insert_entry, HaveIds-insert_entry, same_kept}
 use Rattle.std.proofs.lemmas.Int.{to_z-of_z}
 use mir.Syntax.{w64}
