@@ -10,9 +10,8 @@ mod take;
 #[cfg(test)]
 mod tests;
 
-pub use real::StdHost;
-
 pub use commands::{command, offline};
+pub use real::StdHost;
 
 /// Why taking lines stopped.
 #[derive(Clone, Copy, Debug, PartialEq, Eq)]

@@ -1,7 +1,245 @@
-use crate::StdHost;
-use qe_base::{FetchFault, Host, Sink};
+//! The command over a host in memory, and the real host over files.
+ghost use Rattle.std.specs.Prelude.{None, true, false, ◌^◌, ◌-◌};
+
+use crate::{StdHost, command};
+use qe_base::{
+    Bytes, Failed, FetchFault, Host, Items, MemHost, MemSink, MemSource, Memory, Sink, Source, Text,
+};
+use std::alloc::Global;
 use std::fs;
 use std::test::Fail;
+
+const PEOPLE: &str =
+    "datasource d {\nprovider = \"sqlite\"\nrelationMode = \"prisma\"\n}\nmodel User {\nid Int @id\nname String\n}\n";
+
+const CREATE: &str =
+    r#"{"modelName":"User","action":"create","query":{"arguments":{"data":{"id":1,"name":"Ada"}}}}"#;
+
+const FIND_1: &str =
+    r#"{"modelName":"User","action":"findUnique","query":{"arguments":{"where":{"id":1}}}}"#;
+
+const FIND_2: &str =
+    r#"{"modelName":"User","action":"findUnique","query":{"arguments":{"where":{"id":2}}}}"#;
+
+const ADA: &str = r#"{"data":{"id":1,"name":"Ada"}}"#;
+
+const NOBODY: &str = r#"{"data":null}"#;
+
+const TWICE: &str =
+    r#"{"error":{"cause":"unique","code":"P2002","meta":{"model":"User","target":["id"]}}}"#;
+
+const NOT_JSON: &str = r#"{"error":{"cause":"json","code":"E3","meta":{}}}"#;
+
+const UNBUILT: &str = r#"{"error":{"cause":"unbuilt","code":"E9","meta":{}}}"#;
+
+/// The pieces, with an end behind each.
+fn joined(alloc: Global, pieces: &[&str], end: &str) -> Result<Text, Memory> {
+    let mut text = String::new(alloc);
+    for piece in pieces {
+        text.push_str(piece)?;
+        text.push_str(end)?;
+    }
+    Ok(Text::from_string(text))
+}
+
+fn split_words(alloc: Global, line: &str) -> Result<Vec<String>, Memory> {
+    let mut words = Vec::new(alloc);
+    for word in line.split(' ') {
+        words.push(String::from_str(alloc, word)?)?;
+    }
+    Ok(words)
+}
+
+/// A schema, and a file that is none.
+fn some_files(alloc: Global) -> Result<Items<(Text, Bytes)>, Memory> {
+    let mut files = Items::new(alloc);
+    for (name, content) in [("people", PEOPLE), ("letter", "Dear Ada\n")] {
+        let content = Bytes::from_slice(alloc, content.as_bytes())?;
+        files.push((Text::from_str(alloc, name)?, content))?;
+    }
+    Ok(files)
+}
+
+/// A host over those files. The numbers of the reads and of the writes that fail count from 1.
+fn host_with(
+    alloc: Global,
+    input: &[&str],
+    failing_reads: &[u64],
+    failing_writes: &[u64],
+) -> Result<MemHost, Memory> {
+    let input = joined(alloc, input, "")?;
+    let source = MemSource::new(alloc, input.as_str().as_bytes(), failing_reads)?;
+    let sink = MemSink::new(alloc, 4096, failing_writes)?;
+    MemHost::new(alloc, some_files(alloc)?, source, sink, &[])
+}
+
+/// The status of a command, and what it wrote.
+fn run(
+    alloc: Global,
+    words: &str,
+    input: &[&str],
+    failing_reads: &[u64],
+    failing_writes: &[u64],
+) -> Result<(u8, Bytes), Memory> {
+    let mut host = host_with(alloc, input, failing_reads, failing_writes)?;
+    let words = split_words(alloc, words)?;
+    let status = command(alloc, words.as_slice(), &mut host);
+    Ok((status, Bytes::from_slice(alloc, host.taken())?))
+}
+
+/// A host that gives and takes one byte at a time. It tells nothing.
+#[derive(Drop)]
+struct Narrow {
+    inner: MemHost,
+}
+
+impl Source for Narrow {
+    ghost left = { λ _. None };
+
+    ghost read_faults = { λ _. 2 ^ 64 - 1 };
+
+    ghost read_may_fail = { λ _. true };
+
+    ghost same_but_input = { λ _ _. Unit {0} };
+
+    fn read(&mut self, into: &mut [u8]) -> Result<usize, Failed> {
+        let most = into.len().min(1);
+        let (front, _) = into.split_at_mut(most);
+        self.inner.read(front)
+    }
+}
+
+impl Sink for Narrow {
+    ghost taken = { λ _. None };
+
+    ghost write_faults = { λ _. 2 ^ 64 - 1 };
+
+    ghost write_may_fail = { λ _. true };
+
+    ghost same_but_output = { λ _ _. Unit {0} };
+
+    fn write(&mut self, piece: &[u8]) -> Result<usize, Failed> {
+        let most = piece.len().min(1);
+        let (front, _) = piece.split_at(most);
+        self.inner.write(front)
+    }
+}
+
+impl Host for Narrow {
+    ghost use Rattle.std.proofs.Common.{rules};
+
+    ghost files = { λ _. None };
+
+    ghost fetch_faults = { λ _. 2 ^ 64 - 1 };
+
+    ghost is_steady = { λ _. false };
+
+    fn fetch(&mut self, name: &str, most: usize) -> Result<Bytes, FetchFault> {
+        self.inner.fetch(name, most)
+    }
+
+    ghost input_apart = { λ a b same. Prim.search rules };
+
+    ghost output_apart = { λ a b same. Prim.search rules };
+
+    ghost steady_is_sure = { λ host steady. Prim.search rules };
+}
+
+#[test]
+fn answers_each_line(rt: HostRuntime) -> Result<(), Fail> {
+    let alloc = rt.alloc();
+    let input = [
+        CREATE,
+        "\n",
+        FIND_1,
+        "\r\n",
+        FIND_2,
+        "\n \t\r\n",
+        CREATE,
+        "\n{\n{}\n",
+        FIND_1,
+    ];
+    let want = [ADA, ADA, NOBODY, TWICE, NOT_JSON, UNBUILT, ADA];
+    let want = joined(alloc, &want, "\n")?;
+    let (status, written) = run(alloc, "engine run people", &input, &[], &[])?;
+    assert_eq!(rt; written.as_slice(), want.as_str().as_bytes());
+    assert_eq!(rt; status, 0);
+    Ok(())
+}
+
+#[test]
+fn passes_over_blank_lines(rt: HostRuntime) -> Result<(), Fail> {
+    let alloc = rt.alloc();
+    for (input, want) in [
+        ("", [].as_slice()),
+        ("\n\n", &[]),
+        (" \t\r\n\t\n\r \r", &[]),
+        ("\n{", &[NOT_JSON]),
+        ("{} x\n\n{}", &[NOT_JSON, UNBUILT]),
+    ] {
+        let want = joined(alloc, want, "\n")?;
+        let (status, written) = run(alloc, "engine run people", &[input], &[], &[])?;
+        assert_eq!(rt; written.as_slice(), want.as_str().as_bytes());
+        assert_eq!(rt; status, 0);
+    }
+    Ok(())
+}
+
+#[test]
+fn ends_without_an_answer(rt: HostRuntime) -> Result<(), Fail> {
+    for (words, status, want) in [
+        ("engine run", 2, "usage\n"),
+        ("engine run -x", 2, "usage\n"),
+        ("engine run people people", 2, "usage\n"),
+        ("engine Run people", 2, "usage\n"),
+        ("run people", 2, "usage\n"),
+        ("engine run nothing", 4, "fault fetch\n"),
+        ("engine run letter", 3, "P1012 unbuilt\n"),
+    ] {
+        let (got, written) = run(rt.alloc(), words, &[FIND_1, "\n"], &[], &[])?;
+        assert_eq!(rt; written.as_slice(), want.as_bytes(), "{words}");
+        assert_eq!(rt; got, status, "{words}");
+    }
+    Ok(())
+}
+
+#[test]
+fn ends_at_a_fault(rt: HostRuntime) -> Result<(), Fail> {
+    let alloc = rt.alloc();
+    for (failing_reads, failing_writes, want) in [
+        ([1].as_slice(), [].as_slice(), ["fault read"].as_slice()),
+        (&[2], &[], &[ADA, "fault read"]),
+        (&[], &[1], &[]),
+        (&[], &[2], &[ADA]),
+        (&[2], &[2], &[ADA]),
+    ] {
+        let want = joined(alloc, want, "\n")?;
+        let input = [CREATE, "\n", FIND_2];
+        let (status, written) = run(
+            alloc,
+            "engine run people",
+            &input,
+            failing_reads,
+            failing_writes,
+        )?;
+        assert_eq!(rt; written.as_slice(), want.as_str().as_bytes());
+        assert_eq!(rt; status, 4);
+    }
+    Ok(())
+}
+
+#[test]
+fn passes_single_bytes(rt: HostRuntime) -> Result<(), Fail> {
+    let alloc = rt.alloc();
+    let mut host = Narrow {
+        inner: host_with(alloc, &["\n", CREATE, "\n{\n \n", FIND_1], &[], &[])?,
+    };
+    let words = split_words(alloc, "engine run people")?;
+    assert_eq!(rt; command(alloc, words.as_slice(), &mut host), 0);
+    let want = joined(alloc, &[ADA, NOT_JSON, ADA], "\n")?;
+    assert_eq!(rt; host.inner.taken(), want.as_str().as_bytes());
+    Ok(())
+}
 
 #[test]
 fn fetches_the_front_of_a_file(rt: HostRuntime) -> Result<(), Fail> {
