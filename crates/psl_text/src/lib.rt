@@ -1,0 +1,10 @@
+//! The text of a schema as a tree: its tokens, and the grammar over them.
+#![tactic(auto)]
+
+mod fault;
+mod scan;
+mod token;
+mod tree;
+
+pub use fault::TextFault;
+pub use tree::{Argument, Attribute, Block, Entry, Mark, Name, Term, Tree, Word};
