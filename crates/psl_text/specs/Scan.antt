@@ -1,5 +1,5 @@
 -- What stands at the front of a text, and how long it is. Past its end a text reads as 0.
-use Rattle.std.specs.Prelude.{ℕ, ◌+◌, Bool, true, false, not, ◌||◌, if◌then◌else◌, ◌==◌, nat_lt, List, [], ◌∷◌, drop, slice_index}
+use Rattle.std.specs.Prelude.{◌≡◌, ◌<◌, ◌≤◌, ℕ, ◌+◌, ◌-◌, length, Bool, true, false, not, ◌||◌, if◌then◌else◌, ◌==◌, nat_lt, List, [], ◌∷◌, drop, slice_index}
 use Rattle.std.specs.Char.{is_ascii_digit, is_ascii_alphabetic, is_ascii_alphanumeric}
 use Rattle.std.specs.List.{prefix_len, suffix_len}
 use Rattle.psl_text.specs.declared.token.Kind.{Kind}
@@ -70,3 +70,26 @@ front z =
     let b = slice_index z 0 in
     if is_blank b then (kind.Blank, run is_blank z) else (if is_ascii_alphabetic b then (kind.Name, run is_word z) else (if is_digit b then (kind.Number, run is_digit z)
     else (if b == 45 then minus z else (if b == 47 then slash z else (if b == 34 then quoted false 1 (drop 1 z) else (if b == 64 then at_sign z else sign b))))))
+
+-- ---- how far it goes
+
+-- no token but a fault
+abbrev pub is_fault : Kind → Bool
+is_fault kind.BadCharacter = true
+is_fault kind.Unclosed = true
+is_fault _ = false
+
+-- what has a text of its own
+abbrev pub has_text : Kind → Bool
+has_text kind.Name = true
+has_text kind.Number = true
+has_text kind.Text = true
+has_text _ = false
+
+-- It lies within the text and is not empty, and a name, a number and a string begin and end with an ASCII character.
+pub record IsSpan (z : List ℕ) (k : Kind) (n : ℕ) : Type 0 where
+  pub within : n ≤ length z
+  pub moves : is_fault k ≡ false → 1 ≤ n
+  pub begins : has_text k ≡ true → slice_index z 0 < 128
+  pub ends : has_text k ≡ true → slice_index z (n - 1) < 128
+  pub quotes : k ≡ kind.Text → 2 ≤ n

@@ -2,6 +2,7 @@
 #![tactic(auto)]
 
 mod fault;
+mod lexer;
 mod scan;
 mod token;
 mod tree;

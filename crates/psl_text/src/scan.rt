@@ -31,9 +31,11 @@ fn byte_at(text: &[u8], at: usize) -> u8
     if at < text.len() { text[at] } else { 0 }
 }
 
+#[tactic(auto, using(crate::proofs::Runs::blanks_move))]
 fn blanks(text: &[u8]) -> usize
     ensures value { result ≡ spec.run spec.is_blank text.now }
     ensures within { result ≤ length text.now }
+    ensures moves { spec.is_blank (slice_index text.now 0) ≡ true → 1 ≤ result }
 {
     text.iter().take_while(|byte| is_blank(**byte)).count()
 }
@@ -46,29 +48,39 @@ pub fn last_blanks(text: &[u8]) -> usize
     text.iter().rev().take_while(|byte| is_blank(**byte)).count()
 }
 
+#[tactic(auto, using(crate::proofs::Runs::words_ascii, crate::proofs::Runs::words_move))]
 fn words(text: &[u8]) -> usize
     ensures value { result ≡ spec.run spec.is_word text.now }
     ensures within { result ≤ length text.now }
+    ensures moves { spec.is_word (slice_index text.now 0) ≡ true → 1 ≤ result }
+    ensures ascii { 1 ≤ result → slice_index text.now (result - 1) < 128 }
 {
     text.iter().take_while(|byte| is_word(**byte)).count()
 }
 
+#[tactic(auto, using(crate::proofs::Runs::digits_ascii, crate::proofs::Runs::digits_move))]
 fn digits(text: &[u8]) -> usize
     ensures value { result ≡ spec.run spec.is_digit text.now }
     ensures within { result ≤ length text.now }
+    ensures moves { spec.is_digit (slice_index text.now 0) ≡ true → 1 ≤ result }
+    ensures ascii { 1 ≤ result → slice_index text.now (result - 1) < 128 }
 {
     text.iter().take_while(|byte| byte.is_ascii_digit()).count()
 }
 
+#[tactic(auto, using(crate::proofs::Runs::line_moves))]
 fn line(text: &[u8]) -> usize
     ensures value { result ≡ spec.run spec.is_in_line text.now }
     ensures within { result ≤ length text.now }
+    ensures moves { slice_index text.now 0 ≡ 47 → 1 ≤ result }
 {
     text.iter().take_while(|byte| **byte != b'\n').count()
 }
 
 fn broken(byte: u8, at: usize) -> Front
-    ensures { result ≡ spec.broken byte at }
+    ensures value { result ≡ spec.broken byte at }
+    ensures fault { spec.is_fault result.0 ≡ true }
+    ensures within { result.1 ≤ at }
 {
     if byte == b'\n' {
         (Kind::Unclosed, 0)
@@ -80,7 +92,9 @@ fn broken(byte: u8, at: usize) -> Front
 /// The string whose quote is at the front.
 #[tactic(auto, using(crate::proofs::Strings::quoted_at, crate::proofs::Strings::quoted_end), unfolding(crate::specs::Scan::quoted))]
 fn string(text: &[u8]) -> Front
+    requires { slice_index text.now 0 ≡ 34 }
     ensures value { result ≡ spec.quoted false 1 (spec.behind 1 text.now) }
+    ensures span { spec.IsSpan text.now result.0 result.1 }
 {
     let mut is_escaped = false;
     for at in 1..text.len() {
@@ -102,8 +116,10 @@ fn string(text: &[u8]) -> Front
 }
 
 #[tactic(auto, unfolding(crate::specs::Scan::sign))]
-fn sign(byte: u8) -> Front
-    ensures { result ≡ spec.sign byte }
+fn sign(text: &[u8], byte: u8) -> Front
+    requires { slice_index text.now 0 ≡ byte }
+    ensures value { result ≡ spec.sign byte }
+    ensures span { spec.IsSpan text.now result.0 result.1 }
 {
     match byte {
         b'{' => (Kind::OpenBrace, 1),
@@ -124,7 +140,9 @@ fn sign(byte: u8) -> Front
 }
 
 fn minus(text: &[u8]) -> Front
-    ensures { result ≡ spec.minus text.now }
+    requires { slice_index text.now 0 ≡ 45 }
+    ensures value { result ≡ spec.minus text.now }
+    ensures span { spec.IsSpan text.now result.0 result.1 }
 {
     if byte_at(text, 1).is_ascii_digit() {
         (Kind::Number, 1 + digits(&text[1..]))
@@ -134,7 +152,9 @@ fn minus(text: &[u8]) -> Front
 }
 
 fn slash(text: &[u8]) -> Front
-    ensures { result ≡ spec.slash text.now }
+    requires { slice_index text.now 0 ≡ 47 }
+    ensures value { result ≡ spec.slash text.now }
+    ensures span { spec.IsSpan text.now result.0 result.1 }
 {
     if byte_at(text, 1) == b'/' {
         (Kind::Comment, line(text))
@@ -144,7 +164,9 @@ fn slash(text: &[u8]) -> Front
 }
 
 fn at_sign(text: &[u8]) -> Front
-    ensures { result ≡ spec.at_sign text.now }
+    requires { slice_index text.now 0 ≡ 64 }
+    ensures value { result ≡ spec.at_sign text.now }
+    ensures span { spec.IsSpan text.now result.0 result.1 }
 {
     if byte_at(text, 1) == b'@' {
         (Kind::AtAt, 2)
@@ -157,6 +179,7 @@ fn at_sign(text: &[u8]) -> Front
 #[tactic(auto, unfolding(crate::specs::Scan::front))]
 pub fn front(text: &[u8]) -> Front
     ensures value { result ≡ spec.front text.now }
+    ensures span { spec.IsSpan text.now result.0 result.1 }
 {
     let byte = byte_at(text, 0);
     if is_blank(byte) {
@@ -171,7 +194,7 @@ pub fn front(text: &[u8]) -> Front
             b'/' => slash(text),
             b'"' => string(text),
             b'@' => at_sign(text),
-            _ => sign(byte),
+            _ => sign(text, byte),
         }
     }
 }
