@@ -1,2 +1,6 @@
+pub mod Cuts
+pub mod Docs
+pub mod Escapes
+pub mod Innermost
 pub mod Runs
 pub mod Strings

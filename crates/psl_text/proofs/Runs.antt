@@ -1,7 +1,7 @@
 -- Runs of bytes at the front of a text.
 use Rattle.std.proofs.Common.{◌≡◌, ℕ, ◌-◌, ◌<◌, ◌≤◌, Bool, true, false, List, [], ◌∷◌, length, get_or, arith, refl}
 use Rattle.std.proofs.lemmas.Bool.Decides.{nat_tests}
-use Rattle.std.proofs.lemmas.List.Sums.{prefix_len_passes}
+use Rattle.std.proofs.lemmas.List.Sums.{prefix_len_passes, prefix_len_stops}
 use Rattle.psl_text.specs.Scan.{is_blank, is_word, is_digit, is_in_line, run}
 
 -- what passes at the front is a run of one byte or more
@@ -33,3 +33,9 @@ blanks_move z h = run_moves is_blank z refl h
 pub line_moves : (z : List ℕ) → get_or z 0 0 ≡ 47 → 1 ≤ run is_in_line z
 line_moves [] h = omega arith
 line_moves (b ∷ z) h = rw h (omega arith)
+
+in_line_not : (b : ℕ) → is_in_line b ≡ false → b ≡ 10
+in_line_not b h = grind (arith, nat_tests)
+
+pub line_stops : (z : List ℕ) → run is_in_line z < length z → get_or z (run is_in_line z) 0 ≡ 10
+line_stops z h = in_line_not _ (prefix_len_stops is_in_line z 0 h)

@@ -66,9 +66,7 @@ docs_below line.Doc docs = docs
 docs_below line.Used docs = []
 
 abbrev pub behind_comment : List ℕ → Cursor → Cursor
-behind_comment comment c =
-    if is_doc c.line comment then record c { at = c.at + length comment; docs = c.docs ++ doc_of comment ∷ []; line = line.Doc }
-    else record c { at = c.at + length comment; line = line.Used }
+behind_comment comment c = if is_doc c.line comment then record c { docs = c.docs ++ doc_of comment ∷ []; line = line.Doc } else record c { line = line.Used }
 
 -- ---- one token
 
@@ -81,6 +79,12 @@ text_of kind.Number spelling = spelling
 text_of kind.Text spelling = unescaped false (take (length spelling - 2) (drop 1 spelling))
 text_of _ spelling = []
 
+abbrev pub whole_token : Kind → ℕ → List ℕ → Cursor → Token
+whole_token kind n z c = record { kind = kind; at = c.at; text = text_of kind (take n z); docs = c.docs }
+
+abbrev pub behind_token : Kind → ℕ → Cursor → Cursor
+behind_token kind n c = record { at = c.at + n; brackets = opened kind c.at c.brackets; docs = []; line = line.Used }
+
 -- the token at the front, whose kind and length are given
 abbrev pub token_by : Kind → ℕ → List ℕ → Cursor → Option Token
 token_by kind.Blank n z c = None
@@ -88,13 +92,15 @@ token_by kind.Comment n z c = None
 token_by kind.Newline n z c = if is_inside c.brackets then None else Some (mark kind.Newline c.at)
 token_by kind.BadCharacter n z c = Some (mark kind.BadCharacter (c.at + n))
 token_by kind.Unclosed n z c = Some (mark kind.Unclosed c.at)
-token_by kind n z c = Some (record { kind = kind; at = c.at; text = text_of kind (take n z); docs = c.docs })
+token_by kind n z c = Some (whole_token kind n z c)
 
 abbrev pub cursor_by : Kind → ℕ → List ℕ → Cursor → Cursor
 cursor_by kind.Blank n z c = record c { at = c.at + n }
-cursor_by kind.Comment n z c = behind_comment (take n z) c
+cursor_by kind.Comment n z c = record (behind_comment (take n z) c) { at = c.at + n }
 cursor_by kind.Newline n z c = record c { at = c.at + n; docs = docs_below c.line c.docs; line = line.Fresh }
-cursor_by kind n z c = record { at = c.at + n; brackets = opened kind c.at c.brackets; docs = []; line = line.Used }
+cursor_by kind.BadCharacter n z c = c
+cursor_by kind.Unclosed n z c = c
+cursor_by kind n z c = behind_token kind n c
 
 unfoldable pub token_at : List ℕ → Cursor → Option Token
 token_at z c = token_by (front z).0 (front z).1 z c
@@ -110,6 +116,11 @@ end_by (Some bracket) at = mark kind.Unclosed bracket.at
 
 unfoldable pub end_of : Cursor → Token
 end_of c = end_by (innermost c.brackets) c.at
+
+-- a fault is the last token
+abbrev pub is_last : Option Token → Bool
+is_last None = false
+is_last (Some token) = is_fault token.kind
 
 abbrev pub before : Option Token → List Token → List Token
 before None more = more

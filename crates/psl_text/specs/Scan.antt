@@ -86,10 +86,12 @@ has_text kind.Number = true
 has_text kind.Text = true
 has_text _ = false
 
--- It lies within the text and is not empty, and a name, a number and a string begin and end with an ASCII character.
+-- It lies within the text and is not empty. A name, a number and a string begin and end with an ASCII character, and
+-- a comment ends at its line's end.
 pub record IsSpan (z : List ℕ) (k : Kind) (n : ℕ) : Type 0 where
   pub within : n ≤ length z
   pub moves : is_fault k ≡ false → 1 ≤ n
   pub begins : has_text k ≡ true → slice_index z 0 < 128
   pub ends : has_text k ≡ true → slice_index z (n - 1) < 128
   pub quotes : k ≡ kind.Text → 2 ≤ n
+  pub stops : k ≡ kind.Comment → n < length z → slice_index z n ≡ 10

@@ -25,7 +25,8 @@ fn is_escape(byte: u8) -> bool
     byte == b'"' || byte == b'\\' || byte == b'n' || byte == b'r' || byte == b't'
 }
 
-fn byte_at(text: &[u8], at: usize) -> u8
+/// The byte at a place, and 0 past the end.
+pub fn byte_at(text: &[u8], at: usize) -> u8
     ensures { result ≡ slice_index text.now at }
 {
     if at < text.len() { text[at] } else { 0 }
@@ -68,11 +69,12 @@ fn digits(text: &[u8]) -> usize
     text.iter().take_while(|byte| byte.is_ascii_digit()).count()
 }
 
-#[tactic(auto, using(crate::proofs::Runs::line_moves))]
+#[tactic(auto, using(crate::proofs::Runs::line_moves, crate::proofs::Runs::line_stops))]
 fn line(text: &[u8]) -> usize
     ensures value { result ≡ spec.run spec.is_in_line text.now }
     ensures within { result ≤ length text.now }
     ensures moves { slice_index text.now 0 ≡ 47 → 1 ≤ result }
+    ensures stops { result < length text.now → slice_index text.now result ≡ 10 }
 {
     text.iter().take_while(|byte| **byte != b'\n').count()
 }
