@@ -4,3 +4,4 @@ pub mod Escapes
 pub mod Innermost
 pub mod Runs
 pub mod Strings
+pub mod Tokens

@@ -1,5 +1,5 @@
 -- The tokens of a text.
-use Rattle.std.specs.Prelude.{ℕ, zero, suc, ◌+◌, ◌-◌, Bool, true, false, not, ◌&&◌, ◌||◌, if◌then◌else◌, ◌==◌, List, [], ◌∷◌, ◌++◌, length, take, drop, slice_index, slice_get, Option, Some, None}
+use Rattle.std.specs.Prelude.{◌≡◌, ◌<◌, ◌≤◌, ℕ, zero, suc, ◌+◌, ◌-◌, Bool, true, false, not, ◌&&◌, ◌||◌, if◌then◌else◌, ◌==◌, List, [], ◌∷◌, ◌++◌, length, take, drop, slice_index, slice_get, Option, Some, None}
 use Rattle.psl_text.specs.declared.token.Kind.{Kind}
 use Rattle.psl_text.specs.declared.token.Kind.TheVariants as kind
 use Rattle.psl_text.specs.declared.token.Token.{Token}
@@ -65,8 +65,9 @@ docs_below line.Fresh docs = []
 docs_below line.Doc docs = docs
 docs_below line.Used docs = []
 
-abbrev pub behind_comment : List ℕ → Cursor → Cursor
-behind_comment comment c = if is_doc c.line comment then record c { docs = c.docs ++ doc_of comment ∷ []; line = line.Doc } else record c { line = line.Used }
+abbrev pub behind_comment : ℕ → List ℕ → Cursor → Cursor
+behind_comment n comment c =
+    if is_doc c.line comment then record c { at = c.at + n; docs = c.docs ++ doc_of comment ∷ []; line = line.Doc } else record c { at = c.at + n; line = line.Used }
 
 -- ---- one token
 
@@ -79,6 +80,12 @@ text_of kind.Number spelling = spelling
 text_of kind.Text spelling = unescaped false (take (length spelling - 2) (drop 1 spelling))
 text_of _ spelling = []
 
+abbrev pub newline : Cursor → Option Token
+newline c = if is_inside c.brackets then None else Some (mark kind.Newline c.at)
+
+abbrev pub behind_newline : ℕ → Cursor → Cursor
+behind_newline n c = record c { at = c.at + n; docs = docs_below c.line c.docs; line = line.Fresh }
+
 abbrev pub whole_token : Kind → ℕ → List ℕ → Cursor → Token
 whole_token kind n z c = record { kind = kind; at = c.at; text = text_of kind (take n z); docs = c.docs }
 
@@ -89,15 +96,15 @@ behind_token kind n c = record { at = c.at + n; brackets = opened kind c.at c.br
 abbrev pub token_by : Kind → ℕ → List ℕ → Cursor → Option Token
 token_by kind.Blank n z c = None
 token_by kind.Comment n z c = None
-token_by kind.Newline n z c = if is_inside c.brackets then None else Some (mark kind.Newline c.at)
+token_by kind.Newline n z c = newline c
 token_by kind.BadCharacter n z c = Some (mark kind.BadCharacter (c.at + n))
-token_by kind.Unclosed n z c = Some (mark kind.Unclosed c.at)
+token_by kind.Unclosed n z c = Some (mark kind.Unclosed (c.at + n))
 token_by kind n z c = Some (whole_token kind n z c)
 
 abbrev pub cursor_by : Kind → ℕ → List ℕ → Cursor → Cursor
 cursor_by kind.Blank n z c = record c { at = c.at + n }
-cursor_by kind.Comment n z c = record (behind_comment (take n z) c) { at = c.at + n }
-cursor_by kind.Newline n z c = record c { at = c.at + n; docs = docs_below c.line c.docs; line = line.Fresh }
+cursor_by kind.Comment n z c = behind_comment n (take n z) c
+cursor_by kind.Newline n z c = behind_newline n c
 cursor_by kind.BadCharacter n z c = c
 cursor_by kind.Unclosed n z c = c
 cursor_by kind n z c = behind_token kind n c
@@ -107,6 +114,12 @@ token_at z c = token_by (front z).0 (front z).1 z c
 
 unfoldable pub cursor_at : List ℕ → Cursor → Cursor
 cursor_at z c = cursor_by (front z).0 (front z).1 z c
+
+-- how a step moves the cursor
+pub record Moves (text : List ℕ) (old new : Cursor) : Type 0 where
+  pub forth : old.at < new.at
+  pub within : new.at ≤ length text
+  pub by : new.at ≡ old.at + (front (drop old.at text)).1
 
 -- ---- all tokens. The last one is the end, or the first fault.
 

@@ -1,2 +1,4 @@
+pub mod Grammar
 pub mod Lex
+pub mod Parser
 pub mod Scan

@@ -186,7 +186,7 @@ impl Cursor {
     /// Passes a comment, and keeps its documentation.
     fn pass_comment(&mut self, alloc: Global, text: &str, length: usize) -> Result<(), TextFault>
         requires { IsSpan (drop self.old.at text.now) Kind.Comment length }
-        ensures { OnOk result (self.new ≡ spec.cursor_by Kind.Comment length (drop self.old.at text.now) self.old) }
+        ensures { OnOk result (self.new ≡ spec.behind_comment length (take length (drop self.old.at text.now)) self.old) }
     {
         let comment = &text.as_bytes()[self.at..self.at + length];
         let is_doc = byte_at(comment, 2) == b'/';
@@ -201,17 +201,25 @@ impl Cursor {
         Ok(())
     }
 
-    /// Passes a newline. A line without documentation ends the run of lines that have it.
-    fn pass_newline(&mut self, alloc: Global)
-        requires { self.old.at < 2 ^ 64 - 1 }
-        ensures { self.new ≡ spec.cursor_by Kind.Newline 1 [] self.old }
+    /// Passes a newline, which is a token but in parentheses and brackets. A line without
+    /// documentation ends the run of lines that have it.
+    fn newline(&mut self, alloc: Global, length: usize) -> Result<Option<Token>, TextFault>
+        requires { self.old.at + length < 2 ^ 64 }
+        ensures token { IfOk result (λ t. t ≡ spec.newline self.old) }
+        ensures cursor { OnOk result (self.new ≡ spec.behind_newline length self.old) }
     {
+        let token = if is_inside(&self.brackets) {
+            None
+        } else {
+            Some(mark(alloc, Kind::Newline, self.at)?)
+        };
         match self.line {
             Line::Doc => {}
             _ => self.docs = Items::new(alloc),
         }
         self.line = Line::Fresh;
-        self.at += 1;
+        self.at += length;
+        Ok(token)
     }
 
     /// The token at the cursor, which moves behind it.
@@ -233,6 +241,7 @@ impl Cursor {
     }
 
     /// The end of the text, where the cursor is.
+    #[tactic(auto, unfolding(crate::specs::Lex::end_of))]
     fn end(&self, alloc: Global) -> Result<Token, TextFault>
         ensures { IfOk result (λ t. t ≡ spec.end_of self.now) }
     {
@@ -241,4 +250,48 @@ impl Cursor {
             Some(bracket) => mark(alloc, Kind::Unclosed, bracket.at),
         }
     }
+
+    /// Passes what stands at the cursor, and gives its token, if it is one.
+    #[tactic(auto, unfolding(crate::specs::Lex::token_at, crate::specs::Lex::cursor_at))]
+    fn step(&mut self, alloc: Global, text: &str) -> Result<Option<Token>, TextFault>
+        requires { self.old.at < length text.now }
+        ensures token { IfOk result (λ t. t ≡ spec.token_at (drop self.old.at text.now) self.old) }
+        ensures cursor { IfOk result (λ t. spec.is_last t ≡ false → self.new ≡ spec.cursor_at (drop self.old.at text.now) self.old) }
+        ensures moves { IfOk result (λ t. spec.is_last t ≡ false → spec.Moves text.now self.old self.new) }
+    {
+        let (kind, length) = front(&text.as_bytes()[self.at..]);
+        match kind {
+            Kind::Blank => {
+                self.at += length;
+                Ok(None)
+            }
+            Kind::Comment => {
+                self.pass_comment(alloc, text, length)?;
+                Ok(None)
+            }
+            Kind::Newline => self.newline(alloc, length),
+            Kind::BadCharacter | Kind::Unclosed => Ok(Some(mark(alloc, kind, self.at + length)?)),
+            _ => Ok(Some(self.take(alloc, text, kind, length)?)),
+        }
+    }
+}
+
+/// The tokens of a text. The last one is the end, or the first fault.
+#[tactic(auto, unfolding(crate::specs::Lex::tokens_of))]
+pub fn tokens_of(alloc: Global, text: &str) -> Result<Items<Token>, TextFault>
+    ensures { IfOk result (λ ts. ts ≡ spec.tokens_of text.now) }
+{
+    let mut tokens = Items::new(alloc);
+    let mut cursor = Cursor::new(alloc);
+    'text: while cursor.at < text.len() {
+        if let Some(token) = cursor.step(alloc, text)? {
+            let is_last = is_fault(token.kind);
+            tokens.push(token)?;
+            if is_last {
+                return Ok(tokens);
+            }
+        }
+    }
+    tokens.push(cursor.end(alloc)?)?;
+    Ok(tokens)
 }
