@@ -3,6 +3,7 @@
 
 mod fault;
 mod lexer;
+mod parser;
 mod scan;
 mod token;
 mod tree;
