@@ -5,3 +5,4 @@ pub mod Innermost
 pub mod Runs
 pub mod Strings
 pub mod Tokens
+pub mod Turns

@@ -20,9 +20,8 @@ use Rattle.psl_text.specs.declared.tree.Word.{Word}
 use Rattle.psl_text.specs.declared.tree.Word.TheVariants as word
 use Rattle.psl_text.specs.declared.tree.Block.{Block}
 use Rattle.psl_text.specs.declared.tree.Tree.{Tree}
-use Rattle.psl_text.specs.Scan.{is_fault}
 use Rattle.psl_text.specs.Lex.{tokens_of}
-use Rattle.psl_text.specs.Parser.{Outcome, Parser, ◌>>=◌, ◌>>◌, pure, refuse, refusal, kind_of, text_of, rest_of, sees, docs, peek, peek_behind, eat, expect, spelled, name, separated}
+use Rattle.psl_text.specs.Parser.{Outcome, Parser, ◌>>=◌, ◌>>◌, pure, refuse, refusal, kind_of, text_of, rest_of, sees, docs, peek, eat, expect, spelled, name, separated}
 
 -- ---- terms
 
@@ -30,20 +29,18 @@ use Rattle.psl_text.specs.Parser.{Outcome, Parser, ◌>>=◌, ◌>>◌, pure, re
 abbrev pub max_depth : ℕ
 max_depth = 16
 
--- the name of an argument; the token behind a name is read before the name is judged
-abbrev pub named_by : Kind → Kind → Parser (Option Name)
-named_by kind.Name kind.Colon = do
+-- by the token behind a name, which is read before the name is judged: the name of an argument, or none
+abbrev pub named_by : Kind → Parser (Option Name)
+named_by kind.Colon = do
   named ← name
   expect kind.Colon
   pure (Some named)
-named_by kind.Name behind = if is_fault behind then (λ ts. Err (refusal (rest_of ts))) else pure None
-named_by _ behind = pure None
+named_by kind.BadCharacter = λ ts. Err (refusal (rest_of ts))
+named_by kind.Unclosed = λ ts. Err (refusal (rest_of ts))
+named_by _ = pure None
 
 unfoldable pub argument_name : Parser (Option Name)
-argument_name = do
-  first ← peek
-  behind ← peek_behind
-  named_by first behind
+argument_name = λ ts. if sees kind.Name ts then named_by (kind_of (rest_of ts)) ts else Ok (None, ts)
 
 -- Below, `value` is a term one level deeper.
 unfoldable pub argument : Parser Term → Parser Argument

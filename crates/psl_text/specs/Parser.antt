@@ -75,10 +75,6 @@ refuse = λ ts. Err (refusal ts)
 abbrev pub peek : Parser Kind
 peek = λ ts. Ok (kind_of ts, ts)
 
--- the kind of the token behind the next one
-abbrev pub peek_behind : Parser Kind
-peek_behind = λ ts. Ok (kind_of (rest_of ts), ts)
-
 abbrev pub docs : Parser (List (List ℕ))
 docs = λ ts. Ok (docs_of ts, ts)
 

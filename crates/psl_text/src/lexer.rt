@@ -4,10 +4,9 @@ ghost use Rattle.std.specs.Str.{IsCharBoundary};
 ghost use Rattle.psl_text.specs.Scan.{IsSpan, is_fault};
 ghost use Rattle.psl_text.specs.Lex as spec;
 
-use crate::fault::TextFault;
 use crate::scan::{byte_at, front, last_blanks};
 use crate::token::{Kind, Token};
-use qe_base::{Items, Text};
+use qe_base::{Items, Memory, Text};
 use std::alloc::Global;
 
 /// An open bracket.
@@ -37,7 +36,7 @@ pub struct Cursor {
 
 /// Opens or closes a bracket.
 #[tactic(auto, using(crate::proofs::Innermost::popped))]
-fn follow(brackets: &mut Items<Bracket>, kind: Kind, at: usize) -> Result<(), TextFault>
+fn follow(brackets: &mut Items<Bracket>, kind: Kind, at: usize) -> Result<(), Memory>
     ensures { OnOk result (brackets.new ≡ spec.opened kind at brackets.old) }
 {
     match kind {
@@ -82,7 +81,7 @@ fn escaped(byte: u8) -> u8
 }
 
 /// What a string stands for, by what stands between its quotes.
-fn unescaped(alloc: Global, content: &str) -> Result<Text, TextFault>
+fn unescaped(alloc: Global, content: &str) -> Result<Text, Memory>
     ensures { IfOk result (λ t. t ≡ spec.unescaped false content.now) }
 {
     let mut bytes = Vec::new(alloc);
@@ -104,7 +103,7 @@ fn unescaped(alloc: Global, content: &str) -> Result<Text, TextFault>
 }
 
 /// The bytes from `start` to `end`, which lie between characters.
-fn part(alloc: Global, text: &str, start: usize, end: usize) -> Result<Text, TextFault>
+fn part(alloc: Global, text: &str, start: usize, end: usize) -> Result<Text, Memory>
     requires order { start ≤ end }
     requires start { IsCharBoundary text.now start }
     requires end { IsCharBoundary text.now end }
@@ -121,7 +120,7 @@ fn text_of(
     kind: Kind,
     at: usize,
     length: usize,
-) -> Result<Text, TextFault>
+) -> Result<Text, Memory>
     requires { IsSpan (drop at text.now) kind length }
     ensures { IfOk result (λ t. t ≡ spec.text_of kind (take length (drop at text.now))) }
 {
@@ -134,7 +133,7 @@ fn text_of(
 
 /// The documentation in a comment that goes from `at` on.
 #[tactic(auto, using(crate::proofs::Docs::doc_end, crate::proofs::Docs::doc_long, crate::proofs::Docs::doc_order, crate::proofs::Docs::doc_text))]
-fn doc_of(alloc: Global, text: &str, at: usize, length: usize) -> Result<Text, TextFault>
+fn doc_of(alloc: Global, text: &str, at: usize, length: usize) -> Result<Text, Memory>
     requires span { IsSpan (drop at text.now) Kind.Comment length }
     requires doc { spec.is_doc_comment (take length (drop at text.now)) ≡ true }
     ensures { IfOk result (λ t. t ≡ spec.doc_of (take length (drop at text.now))) }
@@ -144,14 +143,14 @@ fn doc_of(alloc: Global, text: &str, at: usize, length: usize) -> Result<Text, T
     part(alloc, text, at + 3, end)
 }
 
-fn empty(alloc: Global) -> Result<Text, TextFault>
+fn empty(alloc: Global) -> Result<Text, Memory>
     ensures { IfOk result (λ t. t ≡ []) }
 {
     Ok(Text::from_str(alloc, "")?)
 }
 
 /// A token without a text.
-fn mark(alloc: Global, kind: Kind, at: usize) -> Result<Token, TextFault>
+fn mark(alloc: Global, kind: Kind, at: usize) -> Result<Token, Memory>
     ensures { IfOk result (λ t. t ≡ spec.mark kind at) }
 {
     Ok(Token {
@@ -184,7 +183,7 @@ impl Cursor {
     }
 
     /// Passes a comment, and keeps its documentation.
-    fn pass_comment(&mut self, alloc: Global, text: &str, length: usize) -> Result<(), TextFault>
+    fn pass_comment(&mut self, alloc: Global, text: &str, length: usize) -> Result<(), Memory>
         requires { IsSpan (drop self.old.at text.now) Kind.Comment length }
         ensures { OnOk result (self.new ≡ spec.behind_comment length (take length (drop self.old.at text.now)) self.old) }
     {
@@ -203,7 +202,7 @@ impl Cursor {
 
     /// Passes a newline, which is a token but in parentheses and brackets. A line without
     /// documentation ends the run of lines that have it.
-    fn newline(&mut self, alloc: Global, length: usize) -> Result<Option<Token>, TextFault>
+    fn newline(&mut self, alloc: Global, length: usize) -> Result<Option<Token>, Memory>
         requires { self.old.at + length < 2 ^ 64 }
         ensures token { IfOk result (λ t. t ≡ spec.newline self.old) }
         ensures cursor { OnOk result (self.new ≡ spec.behind_newline length self.old) }
@@ -223,7 +222,7 @@ impl Cursor {
     }
 
     /// The token at the cursor, which moves behind it.
-    fn take(&mut self, alloc: Global, text: &str, kind: Kind, length: usize) -> Result<Token, TextFault>
+    fn take(&mut self, alloc: Global, text: &str, kind: Kind, length: usize) -> Result<Token, Memory>
         requires { IsSpan (drop self.old.at text.now) kind length }
         ensures token { IfOk result (λ t. t ≡ spec.whole_token kind length (drop self.old.at text.now) self.old) }
         ensures cursor { OnOk result (self.new ≡ spec.behind_token kind length self.old) }
@@ -242,7 +241,7 @@ impl Cursor {
 
     /// The end of the text, where the cursor is.
     #[tactic(auto, unfolding(crate::specs::Lex::end_of))]
-    fn end(&self, alloc: Global) -> Result<Token, TextFault>
+    fn end(&self, alloc: Global) -> Result<Token, Memory>
         ensures { IfOk result (λ t. t ≡ spec.end_of self.now) }
     {
         match innermost(&self.brackets) {
@@ -253,7 +252,7 @@ impl Cursor {
 
     /// Passes what stands at the cursor, and gives its token, if it is one.
     #[tactic(auto, unfolding(crate::specs::Lex::token_at, crate::specs::Lex::cursor_at))]
-    fn step(&mut self, alloc: Global, text: &str) -> Result<Option<Token>, TextFault>
+    fn step(&mut self, alloc: Global, text: &str) -> Result<Option<Token>, Memory>
         requires { self.old.at < length text.now }
         ensures token { IfOk result (λ t. t ≡ spec.token_at (drop self.old.at text.now) self.old) }
         ensures cursor { IfOk result (λ t. spec.is_last t ≡ false → self.new ≡ spec.cursor_at (drop self.old.at text.now) self.old) }
@@ -278,7 +277,7 @@ impl Cursor {
 
 /// The tokens of a text. The last one is the end, or the first fault.
 #[tactic(auto, unfolding(crate::specs::Lex::tokens_of))]
-pub fn tokens_of(alloc: Global, text: &str) -> Result<Items<Token>, TextFault>
+pub fn tokens_of(alloc: Global, text: &str) -> Result<Items<Token>, Memory>
     ensures { IfOk result (λ ts. ts ≡ spec.tokens_of text.now) }
 {
     let mut tokens = Items::new(alloc);

@@ -5,6 +5,7 @@ mod fault;
 mod lexer;
 mod parser;
 mod scan;
+mod term;
 mod token;
 mod tree;
 

@@ -1,16 +1,17 @@
 //! Steps over the tokens of a text.
-ghost use Rattle.std.specs.Prelude.{◌≡◌, ◌≢◌, length, IfOk, IfNone, true, false};
+ghost use Rattle.std.specs.Prelude.{◌≡◌, length, IfOk, true};
 ghost use Rattle.psl_text.specs.Parser as spec;
 ghost use Rattle.psl_text.specs.Parser.{Reads};
 
 use crate::fault::TextFault;
 use crate::token::{Kind, Token};
 use crate::tree::Name;
-use qe_base::{Items, Text};
+use qe_base::{Items, Memory, Text};
 use std::alloc::Global;
 use std::marker::Model;
 
 /// The tokens that are left.
+#[derive(Drop)]
 pub struct Parser<'a> {
     alloc: Global,
     tokens: &'a [Token],
@@ -77,8 +78,8 @@ impl<'a> Parser<'a> {
         }
     }
 
-    #[tactic(auto, unfolding(crate::specs::Parser::refusal))]
     /// Why the next token doesn't fit.
+    #[tactic(auto, unfolding(crate::specs::Parser::refusal))]
     pub fn refuse(&self) -> TextFault
         ensures value { result ≡ spec.refusal self.now }
     {
@@ -118,4 +119,84 @@ impl<'a> Parser<'a> {
         self.pass();
         Ok(())
     }
+
+    /// The kind of the token behind the next one.
+    #[tactic(auto, unfolding(crate::specs::Parser::kind_of, crate::specs::Parser::rest_of))]
+    pub fn peek_behind(&self) -> Kind
+        ensures { result ≡ spec.kind_of (spec.rest_of self.now) }
+    {
+        match self.tokens {
+            [_, behind, ..] => behind.kind,
+            _ => Kind::End,
+        }
+    }
+
+    /// Why the token behind the next one doesn't fit.
+    pub fn refuse_behind(&self) -> TextFault
+        ensures { result ≡ spec.refusal (spec.rest_of self.now) }
+    {
+        let mut behind = Parser {
+            alloc: self.alloc,
+            tokens: self.tokens,
+        };
+        behind.pass();
+        behind.refuse()
+    }
+
+    #[tactic(auto, unfolding(crate::specs::Parser::text_of))]
+    fn text(&self) -> Result<Text, Memory>
+        ensures { IfOk result (λ t. t ≡ spec.text_of self.now) }
+    {
+        match self.tokens {
+            [next, ..] => Ok(next.text.copy(self.alloc)?),
+            [] => Ok(Text::from_str(self.alloc, "")?),
+        }
+    }
+
+    /// The lines of documentation above the next token.
+    #[tactic(auto, unfolding(crate::specs::Parser::docs_of))]
+    pub fn docs(&self) -> Result<Items<Text>, Memory>
+        ensures { IfOk result (λ ds. ds ≡ spec.docs_of self.now) }
+    {
+        match self.tokens {
+            [next, ..] => copy_texts(self.alloc, &next.docs),
+            [] => Ok(Items::new(self.alloc)),
+        }
+    }
+
+    /// The text and the place of a token of this kind, which it passes.
+    #[tactic(auto, unfolding(crate::specs::Parser::spelled))]
+    pub fn spelled(&mut self, kind: Kind) -> Result<Name, TextFault>
+        ensures { Reads (spec.spelled kind self.old) result self.new }
+    {
+        if !self.sees(kind) {
+            return Err(self.refuse());
+        }
+        let name = Name {
+            text: self.text()?,
+            at: self.place(),
+        };
+        self.pass();
+        Ok(name)
+    }
+
+    pub fn name(&mut self) -> Result<Name, TextFault>
+        ensures { Reads (spec.name self.old) result self.new }
+    {
+        self.spelled(Kind::Name)
+    }
+
+    pub fn alloc(&self) -> Global {
+        self.alloc
+    }
+}
+
+fn copy_texts(alloc: Global, all: &Items<Text>) -> Result<Items<Text>, Memory>
+    ensures { IfOk result (λ copy. copy ≡ all.now) }
+{
+    let mut copy = Items::new(alloc);
+    for item in all.as_slice() {
+        copy.push(item.copy(alloc)?)?;
+    }
+    Ok(copy)
 }
