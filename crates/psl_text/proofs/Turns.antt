@@ -29,3 +29,10 @@ level_name value ts e = ap (λ k. term_by value k ts) e
 pub level_bracket : (value : Parser Term) (ts : List Token) → kind_of ts ≡ kind.OpenBracket → level value ts ≡ term_by value kind.OpenBracket ts
 unfolding level
 level_bracket value ts e = ap (λ k. term_by value k ts) e
+
+-- the same beside the other loops
+pub turn_of : {X : Type 0} (x : X) (f : ℕ → X) (n at : ℕ) → at < n → x ≡ f (n - at) → x ≡ f (suc (n - (at + 1)))
+turn_of x f n at below e = let turn : n - at ≡ suc (n - (at + 1)) = omega arith in e ∙ ap f turn
+
+pub no_turn_of : {X : Type 0} (x : X) (f : ℕ → X) (n at : ℕ) → n ≤ at → x ≡ f (n - at) → x ≡ f zero
+no_turn_of x f n at done e = let none : n - at ≡ zero = omega arith in e ∙ ap f none

@@ -1,6 +1,8 @@
 //! The text of a schema as a tree: its tokens, and the grammar over them.
 #![tactic(auto)]
 
+mod attribute;
+mod block;
 mod fault;
 mod lexer;
 mod parser;

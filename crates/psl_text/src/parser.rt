@@ -143,13 +143,14 @@ impl<'a> Parser<'a> {
         behind.refuse()
     }
 
+    /// The text of the next token.
     #[tactic(auto, unfolding(crate::specs::Parser::text_of))]
-    fn text(&self) -> Result<Text, Memory>
-        ensures { IfOk result (λ t. t ≡ spec.text_of self.now) }
+    pub fn text(&self) -> &'a str
+        ensures { result.now ≡ spec.text_of self.now }
     {
         match self.tokens {
-            [next, ..] => Ok(next.text.copy(self.alloc)?),
-            [] => Ok(Text::from_str(self.alloc, "")?),
+            [next, ..] => next.text.as_str(),
+            [] => "",
         }
     }
 
@@ -173,7 +174,7 @@ impl<'a> Parser<'a> {
             return Err(self.refuse());
         }
         let name = Name {
-            text: self.text()?,
+            text: Text::from_str(self.alloc, self.text())?,
             at: self.place(),
         };
         self.pass();
