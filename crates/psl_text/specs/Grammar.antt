@@ -1,5 +1,5 @@
 -- The grammar, over the tokens of a text.
-use Rattle.std.specs.Prelude.{ℕ, zero, suc, Bool, true, false, if◌then◌else◌, List, [], ◌∷◌, ◌++◌, length, Option, Some, None, Result, Ok, Err, codes, nat_lt, bytes_eq}
+use Rattle.std.specs.Prelude.{◌≡◌, ◌≢◌, ℕ, zero, suc, Bool, true, false, if◌then◌else◌, List, [], ◌∷◌, ◌++◌, length, Option, Some, None, Result, Ok, Err, codes, nat_lt, bytes_eq}
 use Rattle.std.specs.Str.{is_utf8}
 use Rattle.std.specs.Str.Lossy.{utf8_valid_len}
 use Rattle.psl_text.specs.declared.fault.TextFault.{TextFault}
@@ -236,3 +236,8 @@ unfoldable pub tree_of : List ℕ → Result Tree TextFault
 tree_of text =
     if nat_lt max_length (length text) then Err (fault.TooLong max_length)
     else (if nat_lt (utf8_valid_len text) (length text) then Err (fault.NotUtf8 (utf8_valid_len text)) else with_length (length text) (blocks (tokens_of text)))
+
+-- what a text is answered by: its tree, or its fault unless memory runs out
+abbrev pub Answers : Result Tree TextFault → Result Tree TextFault → Type 0
+Answers reading (Ok tree) = reading ≡ Ok tree
+Answers reading (Err e) = e ≢ fault.Memory → reading ≡ Err e

@@ -70,6 +70,7 @@ pub fn block_attribute(parser: &mut Parser<'_>) -> Result<Attribute, TextFault>
 }
 
 /// The attributes of a field or a member.
+#[tactic(auto, using(crate::proofs::Turns::attributes_more, crate::proofs::Turns::attributes_done), unfolding(crate::specs::Grammar::attributes, crate::specs::Grammar::attributes_from))]
 pub fn attributes(parser: &mut Parser<'_>) -> Result<Items<Attribute>, TextFault>
     ensures { Reads (spec.attributes parser.old) result parser.new }
 {

@@ -116,6 +116,7 @@ fn ending(parser: &mut Parser<'_>) -> Result<(), TextFault>
 }
 
 /// What follows the opening brace of a block, up to the closing one.
+#[tactic(auto, using(crate::proofs::Turns::entries_more, crate::proofs::Turns::entries_done), unfolding(crate::specs::Grammar::entries, crate::specs::Grammar::entries_from))]
 fn entries(parser: &mut Parser<'_>, word: Word) -> Result<Items<Entry>, TextFault>
     ensures { Reads (spec.entries word parser.old) result parser.new }
 {
@@ -124,10 +125,11 @@ fn entries(parser: &mut Parser<'_>, word: Word) -> Result<Items<Entry>, TextFaul
         if parser.eat(Kind::CloseBrace) {
             return Ok(found);
         }
-        if !parser.eat(Kind::Newline) {
-            found.push(entry(parser, word)?)?;
-            ending(parser)?;
+        if parser.eat(Kind::Newline) {
+            continue;
         }
+        found.push(entry(parser, word)?)?;
+        ending(parser)?;
     }
     Err(parser.refuse())
 }
@@ -179,6 +181,7 @@ fn block(parser: &mut Parser<'_>) -> Result<Block, TextFault>
 }
 
 /// The blocks of a whole text, up to its end.
+#[tactic(auto, using(crate::proofs::Turns::blocks_more, crate::proofs::Turns::blocks_done), unfolding(crate::specs::Grammar::blocks, crate::specs::Grammar::blocks_from))]
 pub fn blocks(parser: &mut Parser<'_>) -> Result<Items<Block>, TextFault>
     ensures { Reads (spec.blocks parser.old) result parser.new }
 {
@@ -187,9 +190,10 @@ pub fn blocks(parser: &mut Parser<'_>) -> Result<Items<Block>, TextFault>
         if parser.sees(Kind::End) {
             return Ok(found);
         }
-        if !parser.eat(Kind::Newline) {
-            found.push(block(parser)?)?;
+        if parser.eat(Kind::Newline) {
+            continue;
         }
+        found.push(block(parser)?)?;
     }
     Err(parser.refuse())
 }

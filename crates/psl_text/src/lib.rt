@@ -6,10 +6,12 @@ mod block;
 mod fault;
 mod lexer;
 mod parser;
+mod reader;
 mod scan;
 mod term;
 mod token;
 mod tree;
 
 pub use fault::TextFault;
+pub use reader::read_tree;
 pub use tree::{Argument, Attribute, Block, Entry, Mark, Name, Term, Tree, Word};
