@@ -1,12 +1,11 @@
 -- Where a text is cut into tokens: between characters.
-use Rattle.std.proofs.Common.{◌≡◌, ℕ, ◌+◌, ◌-◌, ◌<◌, ◌≤◌, true, List, length, get_or, take, drop, sym, ◌∙◌, subst, ap, refl, arith, length-drop, get_or-drop, ◌⊎◌, inl, inr, ◌==◌}
+use Rattle.std.proofs.Common.{◌≡◌, ℕ, ◌+◌, ◌-◌, ◌<◌, ◌≤◌, true, List, length, get_or, take, drop, sym, ◌∙◌, subst, ap, refl, arith, length-drop, get_or-drop, ◌⊎◌, inl, inr}
 use Rattle.std.proofs.lemmas.List.{drop-drop, drop-take, take-take, length-take-le}
 use Rattle.std.proofs.lemmas.Str.{IsCharBoundary-before_ascii, IsCharBoundary-after_ascii}
 use Rattle.std.specs.Str.{IsUtf8, IsCharBoundary}
 use Rattle.psl_text.specs.declared.token.Kind.{Kind}
 use Rattle.psl_text.specs.declared.token.Kind.TheVariants as kind
-use Rattle.psl_text.specs.Scan.{IsSpan, has_text, is_fault, is_blank, last_run}
-use Rattle.psl_text.specs.Lex.{is_doc_comment, doc_of}
+use Rattle.psl_text.specs.Scan.{IsSpan, has_text, is_fault}
 
 -- a byte of what stands behind a place
 pub byte_behind : (text : List ℕ) (at k place : ℕ) → at + k ≡ place → get_or (drop at text) k 0 < 128 → get_or text place 0 < 128

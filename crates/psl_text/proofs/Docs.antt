@@ -1,9 +1,9 @@
 -- Documentation: where its text begins and ends.
-use Rattle.std.proofs.Common.{◌≡◌, ℕ, ◌+◌, ◌-◌, ◌<◌, ◌≤◌, true, List, length, get_or, take, drop, sym, ◌∙◌, subst, ap, refl, arith, length-drop, get_or-drop, ◌⊎◌, inl, inr, reverse}
+use Rattle.std.proofs.Common.{◌≡◌, ℕ, ◌+◌, ◌-◌, ◌<◌, ◌≤◌, true, List, length, get_or, take, drop, sym, ◌∙◌, subst, ap, refl, arith, length-drop, get_or-drop, inl, inr, reverse}
 use Rattle.std.proofs.Math.ListN.{get_or-eq_default}
 use Rattle.std.proofs.lemmas.Bool.{cases_lt, eqb-true}
 use Rattle.std.proofs.lemmas.Bool.Decides.{nat_tests}
-use Rattle.std.proofs.lemmas.List.{drop-drop, drop-take, take-take, length-take-le, get_or-reverse, get_or-take, length-reverse}
+use Rattle.std.proofs.lemmas.List.{take-take, length-take-le, get_or-reverse, get_or-take}
 use Rattle.std.proofs.lemmas.List.Sums.{prefix_len_passes, suffix_len-le-length}
 use Rattle.std.proofs.lemmas.Str.{IsCharBoundary-before_ascii, IsCharBoundary-after_ascii, IsCharBoundary-end}
 use Rattle.std.specs.Str.{IsUtf8, IsCharBoundary}
@@ -17,8 +17,8 @@ third : (z : List ℕ) (n : ℕ) → n ≤ length z → is_doc_comment (take n z
 third z n within doc =
     let byte : get_or (take n z) 2 0 ≡ 47 = eqb-true (get_or (take n z) 2 0) 47 doc in
     elim (cases_lt 2 n) [
-      inl long ↦ (omega arith, sym (get_or-take n z 2 0 long) ∙ byte)
-    | inr short ↦ let few : length (take n z) ≤ 2 = omega (arith, length-take-le n z within) in let beyond : get_or (take n z) 2 0 ≡ 0 = get_or-eq_default (take n z) 0 few in absurd (omega (arith, beyond))
+      | inl long ↦ (omega arith, sym (get_or-take n z 2 0 long) ∙ byte)
+      | inr short ↦ let few : length (take n z) ≤ 2 = omega (arith, length-take-le n z within) in let beyond : get_or (take n z) 2 0 ≡ 0 = get_or-eq_default (take n z) 0 few in absurd (omega (arith, beyond))
     ]
 
 pub doc_long : (text : List ℕ) (at n : ℕ) → IsSpan (drop at text) kind.Comment n → is_doc_comment (take n (drop at text)) ≡ true → (3 ≤ n) × (at + n ≤ length text)
@@ -52,11 +52,11 @@ blanks text at n = last_run is_blank (take (at + n - (at + 3)) (drop (at + 3) te
 end_of_line : (text : List ℕ) (at n : ℕ) → IsSpan (drop at text) kind.Comment n → at + n ≤ length text → IsCharBoundary text (at + n)
 end_of_line text at n span within =
     elim (cases_lt (at + n) (length text)) [
-      inl more ↦
-        let below : n < length (drop at text) = omega (arith, length-drop at text) in
-        let newline : get_or (drop at text) n 0 ≡ 10 = span.stops refl below in
-        IsCharBoundary-before_ascii text (at + n) more (byte_behind text at n (at + n) refl (omega arith))
-    | inr done ↦ let same : length text ≡ at + n = omega arith in subst (IsCharBoundary text) same (IsCharBoundary-end text)
+      | inl more ↦
+          let below : n < length (drop at text) = omega (arith, length-drop at text) in
+          let newline : get_or (drop at text) n 0 ≡ 10 = span.stops refl below in
+          IsCharBoundary-before_ascii text (at + n) more (byte_behind text at n (at + n) refl (omega arith))
+      | inr done ↦ let same : length text ≡ at + n = omega arith in subst (IsCharBoundary text) same (IsCharBoundary-end text)
     ]
 
 low_in_content : (z : List ℕ) (n s : ℕ) → n ≤ length z → 3 ≤ n → 0 < s → s ≤ n - 3 → get_or (drop 3 (take n z)) (n - 3 - s) 0 < 128 → get_or z (n - s) 0 < 128
@@ -77,8 +77,8 @@ pub doc_end : (text : List ℕ) (at n : ℕ) → IsSpan (drop at text) kind.Comm
 doc_end text at n span doc =
     let long = doc_long text at n span doc in
     elim (cases_lt 0 (blanks text at n)) [
-      inl some ↦ before_blanks text _ at n (doc_content text at n long.0) span.within long.0 long.1 some
-    | inr none ↦ let same : at + n ≡ at + n - blanks text at n = omega arith in subst (IsCharBoundary text) same (end_of_line text at n span long.1)
+      | inl some ↦ before_blanks text _ at n (doc_content text at n long.0) span.within long.0 long.1 some
+      | inr none ↦ let same : at + n ≡ at + n - blanks text at n = omega arith in subst (IsCharBoundary text) same (end_of_line text at n span long.1)
     ]
 
 -- the blanks lie in the content

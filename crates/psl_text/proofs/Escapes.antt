@@ -1,5 +1,5 @@
 -- What a string stands for is UTF-8.
-use Rattle.std.proofs.Common.{◌≡◌, ℕ, zero, suc, ◌+◌, ◌<◌, ◌≤◌, ◌==◌, Bool, true, false, ◌&&◌, cond, List, [], ◌∷◌, ◌++◌, length, get_or, drop, inl, inr, refl, ap, sym, subst, ◌∙◌, ◌≢◌, arith, add-one, drop-cons, append_assoc}
+use Rattle.std.proofs.Common.{◌≡◌, ℕ, zero, suc, ◌+◌, ◌<◌, ◌≤◌, ◌==◌, Bool, true, false, cond, List, [], ◌∷◌, ◌++◌, length, get_or, drop, inl, inr, refl, ap, sym, subst, ◌∙◌, ◌≢◌, arith, add-one, drop-cons, append_assoc}
 use Rattle.std.proofs.Math.ListN.{drop_of_length-le}
 use Rattle.std.proofs.lemmas.Bool.Decides.{nat_tests}
 use Rattle.std.proofs.lemmas.Bool.{and_parts, cases_lt}
@@ -60,8 +60,8 @@ low_then b rest low u = IsUtf8-append (b ∷ []) rest (IsUtf8-from_ascii (b ∷ 
 high_byte : (c k : ℕ) → 128 ≤ c → k < length (encode c) → 128 ≤ get_or (encode c) k 0
 high_byte c k high below =
     elim (cases_lt (get_or (encode c) k 0) 128) [
-      inl low ↦ let same : c ≡ get_or (encode c) k 0 = inside_one c [] (encode c) k (sym (append-nil (encode c))) below low in absurd (omega arith)
-    | inr h ↦ h
+      | inl low ↦ let same : c ≡ get_or (encode c) k 0 = inside_one c [] (encode c) k (sym (append-nil (encode c))) below low in absurd (omega arith)
+      | inr h ↦ h
     ]
 
 -- the bytes of a character that is not ASCII
@@ -91,8 +91,8 @@ unescaped_encodes [] h false = IsUtf8-nil
 unescaped_encodes (c ∷ cs) h e =
     let parts = and_parts (scalar c) (scalars cs) h in
     elim (cases_lt c 128) [
-      inl low ↦ subst (λ bs. IsUtf8 (unescaped e (bs ++ encodes cs))) (sym (encode_ascii c low)) (low_step c (encodes cs) low (unescaped_encodes cs parts.1) e)
-    | inr high ↦ high_step (encode c) (encodes cs) (encode_some c) (encode_high c high) (IsUtf8-encode c parts.0) (unescaped_encodes cs parts.1) e
+      | inl low ↦ subst (λ bs. IsUtf8 (unescaped e (bs ++ encodes cs))) (sym (encode_ascii c low)) (low_step c (encodes cs) low (unescaped_encodes cs parts.1) e)
+      | inr high ↦ high_step (encode c) (encodes cs) (encode_some c) (encode_high c high) (IsUtf8-encode c parts.0) (unescaped_encodes cs parts.1) e
     ]
 
 -- what a string stands for is text, since what stands between its quotes is

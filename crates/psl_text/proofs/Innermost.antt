@@ -1,5 +1,5 @@
 -- The brackets that are open.
-use Rattle.std.proofs.Common.{◌≡◌, ◌-◌, List, [], ◌∷◌, ◌++◌, length, take, sym, ap, ◌∙◌, arith, length-append}
+use Rattle.std.proofs.Common.{◌≡◌, ◌-◌, List, [], ◌∷◌, ◌++◌, length, take, arith}
 use Rattle.std.proofs.lemmas.Grind.{common_steps}
 
 -- what is left without the last one

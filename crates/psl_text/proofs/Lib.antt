@@ -6,3 +6,4 @@ pub mod Runs
 pub mod Strings
 pub mod Tokens
 pub mod Turns
+pub mod Whole

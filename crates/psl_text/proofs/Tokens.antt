@@ -1,5 +1,5 @@
 -- The steps of the lexer.
-use Rattle.std.proofs.Common.{◌≡◌, ℕ, zero, suc, ◌+◌, ◌-◌, ◌<◌, ◌≤◌, true, false, List, [], ◌∷◌, ◌++◌, length, get_or, take, drop, sym, ◌∙◌, subst, ap, refl, arith, cond, append_assoc, length-drop, Option, Some, None}
+use Rattle.std.proofs.Common.{◌≡◌, ℕ, zero, suc, ◌-◌, ◌<◌, ◌≤◌, true, false, List, [], ◌∷◌, ◌++◌, length, drop, sym, ◌∙◌, ap, refl, arith, cond, append_assoc, length-drop, Some, None}
 use Rattle.std.proofs.Math.ListN.{drop_of_length-le}
 use Rattle.std.proofs.lemmas.List.{drop-drop}
 use Rattle.psl_text.specs.declared.token.Token.{Token}
@@ -40,7 +40,7 @@ pub more_some : (text : List ℕ) (xs whole : List Token) (token : Token) (old n
     → new ≡ cursor_at (drop old.at text) old → Some token ≡ token_at (drop old.at text) old → is_fault token.kind ≡ false → (xs ++ token ∷ []) ++ tokens_from 0 new (drop new.at text) ≡ whole
 more_some text xs whole token old new h below moves e t other =
     let now : tokens_from 0 old (drop old.at text) ≡ token ∷ tokens_from 0 new (drop new.at text) =
-        moved text old new below moves e ∙ ap (λ o. before o (tokens_from 0 new (drop new.at text))) (sym t) ∙ ap (λ b. cond b (token ∷ []) (token ∷ tokens_from 0 new (drop new.at text))) other in
+    moved text old new below moves e ∙ ap (λ o. before o (tokens_from 0 new (drop new.at text))) (sym t) ∙ ap (λ b. cond b (token ∷ []) (token ∷ tokens_from 0 new (drop new.at text))) other in
     append_assoc xs (token ∷ []) (tokens_from 0 new (drop new.at text)) ∙ ap (λ r. xs ++ r) (sym now) ∙ h
 
 last_of : (z : List ℕ) (c : Cursor) (token : Token) → 0 < length z → Some token ≡ token_at z c → is_fault token.kind ≡ true → tokens_from 0 c z ≡ token ∷ []

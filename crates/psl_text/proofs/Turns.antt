@@ -51,4 +51,3 @@ blocks_more x n at found ts below e = let turn : n - at ≡ suc (n - (at + 1)) =
 
 pub blocks_done : (x : Outcome (List Block)) (n at : ℕ) (found : List Block) (ts : List Token) → n ≤ at → x ≡ blocks_from (n - at) found ts → x ≡ blocks_from zero found ts
 blocks_done x n at found ts done e = let none : n - at ≡ zero = omega arith in e ∙ ap (λ k. blocks_from k found ts) none
-

@@ -1,5 +1,5 @@
 -- What every rule of the grammar is made of: steps over the tokens that are left.
-use Rattle.std.specs.Prelude.{◌≡◌, ◌≢◌, ℕ, zero, suc, Bool, true, false, if◌then◌else◌, List, [], ◌∷◌, ◌++◌, length, Option, Some, None, Result, Ok, Err}
+use Rattle.std.specs.Prelude.{◌≡◌, ◌≢◌, ℕ, zero, suc, Bool, true, false, if◌then◌else◌, List, [], ◌∷◌, ◌++◌, Result, Ok, Err}
 use denote.Enum.Bare.{sameb}
 use Rattle.psl_text.specs.contracts.token.Kind.{the_type}
 use Rattle.psl_text.specs.declared.fault.TextFault.{TextFault}

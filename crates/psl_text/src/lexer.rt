@@ -114,13 +114,7 @@ fn part(alloc: Global, text: &str, start: usize, end: usize) -> Result<Text, Mem
 
 /// The text of a token that goes from `at` on so far.
 #[tactic(auto, using(crate::proofs::Cuts::cut_before, crate::proofs::Cuts::cut_behind_quote, crate::proofs::Cuts::cut_before_quote, crate::proofs::Cuts::inner))]
-fn text_of(
-    alloc: Global,
-    text: &str,
-    kind: Kind,
-    at: usize,
-    length: usize,
-) -> Result<Text, Memory>
+fn text_of(alloc: Global, text: &str, kind: Kind, at: usize, length: usize) -> Result<Text, Memory>
     requires { IsSpan (drop at text.now) kind length }
     ensures { IfOk result (λ t. t ≡ spec.text_of kind (take length (drop at text.now))) }
 {
@@ -222,7 +216,13 @@ impl Cursor {
     }
 
     /// The token at the cursor, which moves behind it.
-    fn take(&mut self, alloc: Global, text: &str, kind: Kind, length: usize) -> Result<Token, Memory>
+    fn take(
+        &mut self,
+        alloc: Global,
+        text: &str,
+        kind: Kind,
+        length: usize,
+    ) -> Result<Token, Memory>
         requires { IsSpan (drop self.old.at text.now) kind length }
         ensures token { IfOk result (λ t. t ≡ spec.whole_token kind length (drop self.old.at text.now) self.old) }
         ensures cursor { OnOk result (self.new ≡ spec.behind_token kind length self.old) }

@@ -46,7 +46,10 @@ pub fn last_blanks(text: &[u8]) -> usize
     ensures value { result ≡ spec.last_run spec.is_blank text.now }
     ensures within { result ≤ length text.now }
 {
-    text.iter().rev().take_while(|byte| is_blank(**byte)).count()
+    text.iter()
+        .rev()
+        .take_while(|byte| is_blank(**byte))
+        .count()
 }
 
 #[tactic(auto, using(crate::proofs::Runs::words_ascii, crate::proofs::Runs::words_move))]

@@ -1,4 +1,4 @@
-use Rattle.std.proofs.Common.{◌≡◌, false, true, List, ◌++◌, ◌∷◌, [], drop, sym, subst, ◌∙◌, ap, Option, Some, None, arith, rules}
+use Rattle.std.proofs.Common.{◌≡◌, false, true, List, ◌++◌, ◌∷◌, [], drop, sym, ◌∙◌, ap, Some, None}
 use Rattle.psl_text.specs.declared.token.Token.{Token}
 use Rattle.psl_text.specs.Scan.{is_fault}
 use Rattle.psl_text.specs.Lex.{tokens_from, tokens_of, token_at, is_last}

@@ -1,4 +1,4 @@
-use Rattle.std.proofs.Common.{◌≡◌, true, false, subst, sym, arith, rules}
+use Rattle.std.proofs.Common.{◌≡◌, true, false, subst, sym, arith}
 use Rattle.std.proofs.lemmas.Grind.{common_steps}
 use Rattle.std.specs.Prelude.{IsUtf8}
 use Rattle.psl_text.specs.Lex.{unescaped}

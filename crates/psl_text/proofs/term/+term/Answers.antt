@@ -2,7 +2,7 @@ use Rattle.std.proofs.Common.{◌≡◌, ◌-◌, sym, subst, ◌∙◌, rules, 
 use Rattle.std.proofs.lemmas.Grind.{common_steps}
 use Rattle.psl_text.specs.declared.token.Kind.TheVariants as kind
 use Rattle.psl_text.specs.Parser.{Reads, separated}
-use Rattle.psl_text.specs.Grammar.{argument, arguments, items, term_of, level}
+use Rattle.psl_text.specs.Grammar.{argument, arguments, items, term_of}
 use Rattle.psl_text.proofs.Turns.{one_more, deeper, level_name, level_bracket}
 use Rattle.psl_text.proofs.term.+term.Goals as goal
 
