@@ -9,6 +9,8 @@ mod parser;
 mod reader;
 mod scan;
 mod term;
+#[cfg(test)]
+mod tests;
 mod token;
 mod tree;
 
