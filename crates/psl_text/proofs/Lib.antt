@@ -7,3 +7,10 @@ pub mod Strings
 pub mod Tokens
 pub mod Turns
 pub mod Whole
+pub mod Steps
+pub mod Separate
+pub mod TermRules
+pub mod LevelRules
+pub mod AttributeRules
+pub mod EntryRules
+pub mod BlockRules

@@ -211,7 +211,7 @@ block = do
   pure (record { word = begins; name = called; docs = above; entries = found })
 
 unfoldable pub blocks_from : ℕ → List Block → Parser (List Block)
-blocks_from zero found = refuse
+blocks_from zero found = λ ts. if sees kind.End ts then Ok (found, ts) else refuse ts
 blocks_from (suc n) found = λ ts. if sees kind.End ts then Ok (found, ts) else (do
   is_blank ← eat kind.Newline
   if is_blank then blocks_from n found else (do next ← block; blocks_from n (found ++ next ∷ []))) ts

@@ -1,3 +1,4 @@
+pub mod Derives
 pub mod Grammar
 pub mod Lex
 pub mod Parser

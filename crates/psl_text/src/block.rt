@@ -195,5 +195,9 @@ pub fn blocks(parser: &mut Parser<'_>) -> Result<Items<Block>, TextFault>
         }
         found.push(block(parser)?)?;
     }
-    Err(parser.refuse())
+    if parser.sees(Kind::End) {
+        Ok(found)
+    } else {
+        Err(parser.refuse())
+    }
 }

@@ -4,6 +4,7 @@
 mod attribute;
 mod block;
 mod fault;
+mod laws;
 mod lexer;
 mod parser;
 mod reader;
@@ -15,5 +16,6 @@ mod token;
 mod tree;
 
 pub use fault::TextFault;
+pub use laws::one_tree;
 pub use reader::read_tree;
 pub use tree::{Argument, Attribute, Block, Entry, Mark, Name, Term, Tree, Word};

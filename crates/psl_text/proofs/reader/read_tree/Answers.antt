@@ -1,14 +1,8 @@
-use Rattle.std.proofs.Common.{rules, arith}
-use Rattle.std.proofs.lemmas.Grind.{common_steps}
-use Rattle.psl_text.proofs.Whole.{tree_of_text}
+use Rattle.psl_text.proofs.BlockRules.{found_tree, only_tree}
 use Rattle.psl_text.proofs.reader.read_tree.Goals as goal
 
-pub returns-in_err-blocks : goal.returns-in_err-blocks
-returns-in_err-blocks c =
-    let whole = tree_of_text c.args.text.now (omega arith) c.in-Ok.ensures.cases.1 in
-    first_of (search rules, grind (arith, common_steps))
+pub returns-clause-found : goal.returns-clause-found
+returns-clause-found c = found_tree c.args.text.now c.read.result c.read.ensures.exact c.read.ensures.ok
 
-pub returns : goal.returns
-returns c =
-    let whole = tree_of_text c.args.text.now (omega arith) c.in-Ok.ensures.cases.1 in
-    first_of (search rules, grind (arith, common_steps))
+pub returns-clause-only : goal.returns-clause-only
+returns-clause-only c tree h = only_tree c.args.text.now c.read.result c.read.ensures.exact tree h
