@@ -1,6 +1,10 @@
 pub mod Accepted
+pub mod Calls
 pub mod Causes
 pub mod Lookup
+pub mod MemHost
+pub mod MemSink
+pub mod MemSource
 pub mod Outside
 pub mod ValueOrder
 pub mod Values

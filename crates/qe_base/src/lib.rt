@@ -7,15 +7,15 @@ mod outside;
 mod query;
 mod schema;
 mod schema_copy;
+#[cfg(test)]
+mod tests;
 mod text;
 mod value;
 mod write;
 
-pub use answer::{Answer, OpFault, Outside, Rule, Why};
-pub use outside::{Failed, FetchFault, Host, Sink, Source};
-pub use query::{
-    Child, Filter, Like, Look, OrderBy, OrderEnd, Page, Pick, Quant, Test, Unique,
-};
+pub use answer::{Answer, OpFault, Outside, Rule};
+pub use outside::{Failed, FetchFault, Host, HostCall, MemHost, MemSink, MemSource, Sink, Source};
+pub use query::{Child, Filter, Like, Look, OrderBy, OrderEnd, Page, Pick, Quant, Test, Unique};
 pub use schema::{Action, Choice, Column, Field, Fill, Key, Link, Relation, Schema, Table};
 pub use sqlite_items::{Boxed, Items};
 pub use text::{Bytes, Memory, Text};

@@ -5,7 +5,15 @@
 ghost use Rattle.std.specs.Prelude.{◌≡◌, ℕ, List, Option, Bool, true, false, IsErr, IsErrOf};
 ghost use Rattle.qe_base.specs.Causes.{HasCause};
 
+mod calls;
+mod mem_host;
+mod mem_sink;
+mod mem_source;
+
 use crate::text::Bytes;
+pub use mem_host::{HostCall, MemHost};
+pub use mem_sink::MemSink;
+pub use mem_source::MemSource;
 
 /// A call of something outside failed.
 #[derive(Clone, Copy, Debug, PartialEq, Eq)]

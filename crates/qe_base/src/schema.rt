@@ -103,9 +103,7 @@ fn position_of(tables: &[Table], name: &str) -> Option<usize>
     ensures at { result ≡ position (λ table. bytes_eq table.name name.now) tables.now }
     ensures within { IfSome result (λ at. at < length tables.now) }
 {
-    tables
-        .iter()
-        .position(|table| table.name.is_same(name))
+    tables.iter().position(|table| table.name.is_same(name))
 }
 
 /// An accepted schema.

@@ -1,0 +1,63 @@
+-- A line's answer, by what its reading and its operation gave.
+use Rattle.std.proofs.Common.{◌≡◌, ℕ, List, [], ◌∷◌, ◌++◌, refl, sym, ap, ◌∙◌, subst, inl, inr, ◌⊎◌}
+use Rattle.std.specs.Prelude.{Result, Ok, Err, OnOk, Option, None}
+use Rattle.qe_base.specs.declared.answer.Answer.{Answer}
+use Rattle.qe_base.specs.declared.answer.OpFault.{OpFault}
+use Rattle.qe_base.specs.declared.answer.OpFault.TheVariants as fault
+use Rattle.qe_base.specs.declared.answer.Rule.{Rule}
+use Rattle.qe_base.specs.declared.schema.Schema.{Schema}
+use Rattle.qe_base.specs.declared.write.Op.{Op}
+use Rattle.qe_tables.specs.Tables.{Tables}
+use Rattle.qe_plain.specs.Plain.{Done, plain}
+use Rattle.qe_history.specs.declared.What.TheVariants as what
+use Rattle.qe_history.specs.declared.Reply.{Reply}
+use Rattle.qe_history.specs.declared.Reply.TheVariants as replies
+use Rattle.qe_history.specs.State.{State, Told, opening, Steps, done_in, reply_of}
+use Rattle.qe_forms.specs.Request.{asked_of, asks, not_json, unbuilt, Asked}
+use Rattle.qe_forms.specs.Reply.{text_of, not_json_text, unbuilt_text, memory_text}
+use Rattle.qe_exchange.specs.Exchange.{Outcome, told, entered, ComesOf, entry_of, outside}
+use Rattle.qe_ops.specs.Performs.{Performs}
+use Rattle.qe_cli.specs.Run.{Answers, OutcomeLeads}
+
+pub on_ok : {T E : Type 0} {P Q : Type 0} (r : Result T E) → (P → Q) → OnOk r P → OnOk r Q
+on_ok (Ok x) f p = f p
+on_ok (Err e) f p = tt
+
+-- what was done of an operation is its step
+done_step : (schema : Schema) (before : Tables) (op : Op) (place : ℕ) (answer : Result Answer Rule) (after : Tables) → plain schema op outside before ≡ record { answer = answer; tables = after }
+    → Steps (opening schema before) place (entry_of (what.Single op) (reply_of answer)).event (reply_of answer) (opening schema after)
+done_step schema before op place answer after is = inl (sym (ap (done_in (opening schema before)) is))
+
+pub answer_steps : (schema : Schema) (before : Tables) (op : Op) (answer : Answer) (after : Tables) → Performs (plain schema op outside before) before (Ok answer) after
+    → (place : ℕ) → Steps (opening schema before) place (entry_of (what.Single op) (replies.Answer answer)).event (replies.Answer answer) (opening schema after)
+answer_steps schema before op answer after performs place = done_step schema before op place (Ok answer) after performs
+
+pub rule_steps : (schema : Schema) (before : Tables) (op : Op) (broken : Rule) (after : Tables) → Performs (plain schema op outside before) before (Err (fault.Rule broken)) after
+    → (place : ℕ) → Steps (opening schema before) place (entry_of (what.Single op) (replies.Refused None (fault.Rule broken))).event (replies.Refused None (fault.Rule broken)) (opening schema after)
+rule_steps schema before op broken after performs place = done_step schema before op place (Err broken) after performs.0
+
+pub memory_steps : (schema : Schema) (before : Tables) (op : Op) (after : Tables) → after ≡ before → (place : ℕ) → Steps (opening schema before) place (entry_of (what.Single op) replies.Memory).event replies.Memory (opening schema after)
+memory_steps schema before op after same place = inr (refl, ap (opening schema) same)
+
+-- a line that isn't entered
+pub told_answers : (schema : Schema) (line : List ℕ) (before : Tables) (text bytes : List ℕ) → ComesOf (asked_of schema line) (told text) → bytes ≡ text ++ 10 ∷ [] → Answers schema line before bytes before
+told_answers schema line before text bytes comes written = record { outcome = told text; comes = comes; written = written; leads = refl }
+
+pub not_json_told : (schema : Schema) (line : List ℕ) → asked_of schema line ≡ not_json → ComesOf (asked_of schema line) (told not_json_text)
+not_json_told schema line is = subst (λ a. ComesOf a (told not_json_text)) (sym is) (inl refl)
+
+pub unbuilt_told : (schema : Schema) (line : List ℕ) → asked_of schema line ≡ unbuilt → ComesOf (asked_of schema line) (told unbuilt_text)
+unbuilt_told schema line is = subst (λ a. ComesOf a (told unbuilt_text)) (sym is) (inl refl)
+
+memory_comes : (a : Asked) → ComesOf a (told memory_text)
+memory_comes not_json = inr refl
+memory_comes unbuilt = inr refl
+memory_comes (asks op) = refl
+
+pub memory_told : (schema : Schema) (line : List ℕ) → ComesOf (asked_of schema line) (told memory_text)
+memory_told schema line = memory_comes (asked_of schema line)
+
+-- a line that is entered
+pub entered_answers : (schema : Schema) (line : List ℕ) (before : Tables) (op : Op) (reply : Reply) (bytes : List ℕ) (after : Tables) → asked_of schema line ≡ asks op → bytes ≡ text_of schema reply ++ 10 ∷ []
+    → ((place : ℕ) → Steps (opening schema before) place (entry_of (what.Single op) reply).event reply (opening schema after)) → Answers schema line before bytes after
+entered_answers schema line before op reply bytes after is written steps = record { outcome = entered op reply; comes = subst (λ a. ComesOf a (entered op reply)) (sym is) refl; written = written; leads = steps }

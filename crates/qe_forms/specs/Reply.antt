@@ -1,0 +1,106 @@
+-- The texts of replies: compact JSON, each object's members in the order of their names' bytes.
+use Rattle.std.specs.Prelude.{ℕ, List, [], ◌∷◌, Option, Some, None, map, slice_get, codes}
+use Rattle.serde_json.specs.Data.{Data, null, number, string, array, object, Members, no_members, member, put, unsigned}
+use Rattle.serde_json.specs.Find.{of_integer}
+use Rattle.serde_json.specs.View.{items_of}
+use Rattle.serde_json.specs.Written.{compact_text}
+use Rattle.qe_base.specs.declared.value.Value.{Value}
+use Rattle.qe_base.specs.declared.value.Value.TheVariants as value
+use Rattle.qe_base.specs.declared.schema.Column.{Column}
+use Rattle.qe_base.specs.declared.schema.Key.{Key}
+use Rattle.qe_base.specs.declared.schema.Table.{Table}
+use Rattle.qe_base.specs.declared.schema.Schema.{Schema}
+use Rattle.qe_base.specs.declared.answer.Answer.{Answer, fold-Answer}
+use Rattle.qe_base.specs.declared.answer.Answer.TheOpen.{Answer-F}
+use Rattle.qe_base.specs.declared.answer.Answer.TheOpen as answer
+use Rattle.qe_base.specs.declared.answer.Rule.{Rule}
+use Rattle.qe_base.specs.declared.answer.Rule.TheVariants as rule
+use Rattle.qe_base.specs.declared.answer.OpFault.{OpFault}
+use Rattle.qe_base.specs.declared.answer.OpFault.TheVariants as fault
+use Rattle.qe_tables.specs.Tables.{table_at, first_columns}
+use Rattle.qe_history.specs.declared.Reply.{Reply}
+use Rattle.qe_history.specs.declared.Reply.TheVariants as reply
+
+abbrev pub scalar_data : Value → Data
+scalar_data value.Null = null
+scalar_data (value.Text text) = string text
+scalar_data (value.Int integer) = number (of_integer integer)
+
+-- the members, each put at its place
+abbrev pub put_all : List (List ℕ × Data) → Members → Members
+put_all [] found = found
+put_all (one ∷ rest) found = put_all rest (put one.0 one.1 found)
+
+abbrev pub object_of : List (List ℕ × Data) → Data
+object_of members = object (put_all members no_members)
+
+-- one level of an answer, with what is inside already as JSON
+abbrev pub answer_step : Answer-F Data → Data
+answer_step answer.Null = null
+answer_step (answer.Scalar kind found) = scalar_data found
+answer_step (answer.Number count) = number (unsigned count)
+answer_step (answer.Object members) = object_of members
+answer_step (answer.List items) = array (items_of items)
+
+abbrev pub answer_data : Answer → Data
+answer_data = fold-Answer Data answer_step
+
+-- an object of one member
+abbrev pub single : List ℕ → Data → Data
+single name json = object (member name json no_members)
+
+-- an error: its cause, its code and what it is about
+abbrev pub error_data : List ℕ → List ℕ → Members → Data
+error_data cause code meta = single (codes "error") (object (member (codes "cause") (string cause) (member (codes "code") (string code) (member (codes "meta") (object meta) no_members))))
+
+-- an error in the operation of that index, where one is given
+abbrev pub indexed_data : Option ℕ → List ℕ → List ℕ → Members → Data
+indexed_data None cause code meta = error_data cause code meta
+indexed_data (Some index) cause code meta =
+    single (codes "error") (object (member (codes "cause") (string cause) (member (codes "code") (string code) (member (codes "index") (number (unsigned index)) (member (codes "meta") (object meta) no_members)))))
+
+abbrev pub column_name : Option Column → Data
+column_name None = string []
+column_name (Some column) = string column.name
+
+-- the names of these columns
+abbrev pub names_data : Table → List ℕ → Data
+names_data table columns = array (items_of (map (λ column. column_name (slice_get table.columns column)) columns))
+
+abbrev pub columns_of_key : Option Key → List ℕ
+columns_of_key None = []
+columns_of_key (Some key) = key.columns
+
+abbrev pub rule_data : Schema → Option ℕ → Rule → Data
+rule_data schema index (rule.Unique table key) =
+    indexed_data index (codes "unique") (codes "P2002")
+    (member (codes "model") (string (table_at schema table.0).name) (member (codes "target") (names_data (table_at schema table.0) (columns_of_key (slice_get (table_at schema table.0).keys key))) no_members))
+rule_data schema index (rule.Absent table) = indexed_data index (codes "absent") (codes "P2025") (member (codes "model") (string (table_at schema table.0).name) no_members)
+
+abbrev pub memory_data : Data
+memory_data = error_data (codes "memory") (codes "E0") no_members
+
+abbrev pub fault_data : Schema → Option ℕ → OpFault → Data
+fault_data schema index (fault.Rule broken) = rule_data schema index broken
+fault_data schema index fault.Memory = memory_data
+
+abbrev pub unseen_data : ℕ → ℕ → Data
+unseen_data asked place = error_data (codes "unseen") (codes "E2") (member (codes "asked") (number (unsigned asked)) (member (codes "place") (number (unsigned place)) no_members))
+
+-- the text of a reply; a greeting has none
+abbrev pub text_of : Schema → Reply → List ℕ
+text_of schema reply.Hello = []
+text_of schema (reply.Answer found) = compact_text (single (codes "data") (answer_data found))
+text_of schema (reply.Refused index broken) = compact_text (fault_data schema index broken)
+text_of schema (reply.Unseen asked place) = compact_text (unseen_data asked place)
+text_of schema reply.Memory = compact_text memory_data
+
+-- the texts of a line that isn't JSON, that isn't carried out yet, and that memory was short for
+abbrev pub not_json_text : List ℕ
+not_json_text = compact_text (error_data (codes "json") (codes "E3") no_members)
+
+abbrev pub unbuilt_text : List ℕ
+unbuilt_text = compact_text (error_data (codes "unbuilt") (codes "E9") no_members)
+
+abbrev pub memory_text : List ℕ
+memory_text = compact_text memory_data

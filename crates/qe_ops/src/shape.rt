@@ -1,0 +1,41 @@
+//! Showing a row as an answer.
+ghost use Rattle.std.specs.Prelude.{◌≡◌, IfOk, slice_get};
+ghost use Rattle.qe_tables.specs.Columns.{value_at};
+ghost use Rattle.qe_plain.specs.Shape.{scalar_of, shape_of};
+
+use qe_base::{Answer, Items, Memory, Pick, Row, Table, Text, Value};
+use std::alloc::Global;
+
+/// The value in a column, null where there is no such column.
+fn value_in(alloc: Global, row: &Row, column: u16) -> Result<Value, Memory>
+    ensures { IfOk result (λ value. value ≡ value_at row.now column) }
+{
+    match sqlite_items::at(row.values.as_slice(), column as usize) {
+        Some(value) => value.copy(alloc),
+        None => Ok(Value::Null),
+    }
+}
+
+/// The value in a column, by the column's name.
+fn scalar(alloc: Global, table: &Table, column: u16, row: &Row) -> Result<(Text, Answer), Memory>
+    ensures { IfOk result (λ one. one ≡ scalar_of (slice_get table.now.columns column) column row.now) }
+{
+    match sqlite_items::at(table.columns.as_slice(), column as usize) {
+        Some(found) => {
+            let value = value_in(alloc, row, column)?;
+            Ok((found.name.copy(alloc)?, Answer::Scalar(found.kind, value)))
+        }
+        None => Ok((Text::from_str(alloc, "")?, Answer::Null)),
+    }
+}
+
+/// The row as an answer.
+pub fn shape(alloc: Global, table: &Table, pick: &Pick, row: &Row) -> Result<Answer, Memory>
+    ensures { IfOk result (λ answer. answer ≡ shape_of table.now pick.now row.now) }
+{
+    let mut members = Items::new(alloc);
+    for column in pick.columns.as_slice() {
+        members.push(scalar(alloc, table, *column, row)?)?;
+    }
+    Ok(Answer::Object(members))
+}

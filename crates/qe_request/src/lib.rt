@@ -1,0 +1,9 @@
+//! What lines ask for: a line's JSON, read as an operation.
+#![tactic(auto)]
+
+mod lines;
+mod members;
+mod operations;
+mod scalars;
+
+pub use lines::{LineFault, read_line};

@@ -1,0 +1,4 @@
+pub mod Columns
+pub mod Fits
+pub mod Put
+pub mod Tables

@@ -1,0 +1,2 @@
+//! Definitions: tables that fit a schema, filling a new row, and putting a row.
+#![tactic(auto)]
