@@ -112,7 +112,7 @@ fn part(alloc: Global, text: &str, start: usize, end: usize) -> Result<Text, Mem
     Ok(Text::from_str(alloc, &text[start..end])?)
 }
 
-/// The text of a token that goes from `at` on so far.
+/// The text of the token that stands at `at`.
 #[tactic(auto, using(crate::proofs::Cuts::cut_before, crate::proofs::Cuts::cut_behind_quote, crate::proofs::Cuts::cut_before_quote, crate::proofs::Cuts::inner))]
 fn text_of(alloc: Global, text: &str, kind: Kind, at: usize, length: usize) -> Result<Text, Memory>
     requires { IsSpan (drop at text.now) kind length }
@@ -121,7 +121,7 @@ fn text_of(alloc: Global, text: &str, kind: Kind, at: usize, length: usize) -> R
     match kind {
         Kind::Name | Kind::Number => part(alloc, text, at, at + length),
         Kind::Text => unescaped(alloc, &text[at + 1..at + length - 1]),
-        _ => Ok(Text::from_str(alloc, "")?),
+        _ => empty(alloc),
     }
 }
 

@@ -121,12 +121,11 @@ fn string(text: &[u8]) -> Front
 }
 
 #[tactic(auto, unfolding(crate::specs::Scan::sign))]
-fn sign(text: &[u8], byte: u8) -> Front
-    requires { slice_index text.now 0 ≡ byte }
-    ensures value { result ≡ spec.sign byte }
+fn sign(text: &[u8]) -> Front
+    ensures value { result ≡ spec.sign (slice_index text.now 0) }
     ensures span { spec.IsSpan text.now result.0 result.1 }
 {
-    match byte {
+    match byte_at(text, 0) {
         b'{' => (Kind::OpenBrace, 1),
         b'}' => (Kind::CloseBrace, 1),
         b'(' => (Kind::OpenParen, 1),
@@ -199,7 +198,7 @@ pub fn front(text: &[u8]) -> Front
             b'/' => slash(text),
             b'"' => string(text),
             b'@' => at_sign(text),
-            _ => sign(text, byte),
+            _ => sign(text),
         }
     }
 }
