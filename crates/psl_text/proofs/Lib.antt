@@ -1,0 +1,16 @@
+pub mod Cuts
+pub mod Docs
+pub mod Escapes
+pub mod Innermost
+pub mod Runs
+pub mod Strings
+pub mod Tokens
+pub mod Turns
+pub mod Whole
+pub mod Steps
+pub mod Separate
+pub mod TermRules
+pub mod LevelRules
+pub mod AttributeRules
+pub mod EntryRules
+pub mod BlockRules

@@ -1,0 +1,5 @@
+pub mod Derives
+pub mod Grammar
+pub mod Lex
+pub mod Parser
+pub mod Scan

@@ -1,0 +1,21 @@
+//! The text of a schema as a tree: its tokens, and the grammar over them.
+#![tactic(auto)]
+
+mod attribute;
+mod block;
+mod fault;
+mod laws;
+mod lexer;
+mod parser;
+mod reader;
+mod scan;
+mod term;
+#[cfg(test)]
+mod tests;
+mod token;
+mod tree;
+
+pub use fault::TextFault;
+pub use laws::one_tree;
+pub use reader::read_tree;
+pub use tree::{Argument, Attribute, Block, Entry, Mark, Name, Term, Tree, Word};
