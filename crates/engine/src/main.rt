@@ -4,6 +4,9 @@
 
 ghost use Rattle.std.specs.Prelude.{◌≡◌, ◌≢◌};
 
+#[cfg(test)]
+mod tests;
+
 use qe_cli::{StdHost, command};
 use std::env;
 use std::io::{self, ErrorKind};
