@@ -1,8 +1,9 @@
 -- Blocks and whole texts: what is read is derived, and what is derived is read.
-use Rattle.std.proofs.Common.{◌≡◌, ℕ, zero, suc, ◌<◌, ◌≤◌, Bool, true, false, cond, List, [], ◌∷◌, ◌++◌, length, Option, Some, None, Result, Ok, Err, inl, inr, refl, sym, ap, subst, ◌∙◌, arith, append_assoc}
+use Rattle.std.proofs.Common.{◌≡◌, ◌≢◌, ℕ, zero, suc, ◌<◌, ◌≤◌, Bool, true, false, cond, List, [], ◌∷◌, ◌++◌, length, Option, Some, None, Result, Ok, Err, inl, inr, refl, sym, ap, subst, ◌∙◌, arith, append_assoc}
 use Rattle.std.proofs.lemmas.List.{append-nil}
-use Rattle.std.specs.Prelude.{IfOk, OnOk}
+use Rattle.std.specs.Prelude.{IfOk, IfErr, OnOk}
 use Rattle.psl_text.specs.declared.fault.TextFault.{TextFault}
+use Rattle.psl_text.specs.declared.fault.TextFault.TheVariants as fault
 use Rattle.psl_text.specs.declared.token.Kind.{Kind}
 use Rattle.psl_text.specs.declared.token.Kind.TheVariants as kind
 use Rattle.psl_text.specs.declared.token.Token.{Token}
@@ -14,6 +15,7 @@ use Rattle.psl_text.specs.Lex.{tokens_of}
 use Rattle.psl_text.specs.Parser.{Outcome, Parser, and_then, ◌>>=◌, ◌>>◌, pure, refuse, sees, same_kind, kind_of, text_of, docs_of, rest_of, eat, expect, name}
 use Rattle.psl_text.specs.Grammar.{word_named, word_by, word_of, entries, block, blocks_from, blocks, with_length, tree_of, Answers}
 use Rattle.psl_text.specs.Derives.{Spelled, IsBlock, AreBlocks, IsText, HasTree}
+use Rattle.psl_text.specs.Faults.{HasFault}
 use Rattle.psl_text.proofs.Steps.{bind_ok, done, ok_value, ok_rest, IsInside, when_ok, when_yes, when_no, expect_ok, expect_sign, spelled_ok, spelled_is, spelled_sees, sign_other, sign_shrinks, kinds_same}
 use Rattle.psl_text.proofs.TermRules.{name_inside, name_self}
 use Rattle.psl_text.proofs.AttributeRules.{finish}
@@ -181,3 +183,14 @@ only_tree text answer e tree h = subst (λ r. Answers r answer) (tree_is_read te
 -- a text has at most one tree
 pub one_tree_only : (text : List ℕ) (a b : Tree) → HasTree text a → HasTree text b → a ≡ b
 one_tree_only text a b h k = trees_same a b (sym (tree_is_read text a h) ∙ tree_is_read text b k)
+
+-- ---- faults
+
+pub found_fault : (text : List ℕ) (answer : Result Tree TextFault) → Answers (tree_of text) answer → IfErr answer (λ e. e ≢ fault.Memory → HasFault text e)
+unfolding HasFault
+found_fault text (Ok tree) e = tt
+found_fault text (Err f) e = e
+
+pub only_fault : (text : List ℕ) (answer : Result Tree TextFault) → Answers (tree_of text) answer → (f : TextFault) → HasFault text f → Answers (Err f) answer
+unfolding HasFault
+only_fault text answer e f h = subst (λ r. Answers r answer) h e

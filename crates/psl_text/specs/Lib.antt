@@ -1,4 +1,5 @@
 pub mod Derives
+pub mod Faults
 pub mod Grammar
 pub mod Lex
 pub mod Parser

@@ -1,8 +1,11 @@
 //! The tree of a text.
-ghost use Rattle.std.specs.Prelude.{IfOk, OnOk};
+ghost use Rattle.std.specs.Prelude.{◌≢◌, IfOk, IfErr, OnOk, Ok, Err};
+ghost use Rattle.psl_text.specs.declared.fault.TextFault.{TextFault};
+ghost use Rattle.psl_text.specs.declared.fault.TextFault.TheVariants as fault;
 ghost use Rattle.psl_text.specs.declared.tree.Tree.{Tree};
 ghost use Rattle.psl_text.specs.Grammar.{tree_of, Answers};
 ghost use Rattle.psl_text.specs.Derives.{IsText, HasTree};
+ghost use Rattle.psl_text.specs.Faults.{HasFault};
 
 use crate::block::blocks;
 use crate::fault::TextFault;
@@ -48,8 +51,10 @@ pub fn read_tree(alloc: Global, text: &[u8]) -> Result<Tree, TextFault>
     // A text that has a tree is answered by it, unless memory runs out.
     ensures only { (tree : Tree) → HasTree text.now tree → Answers (Ok tree) result }
 
-    // Which fault it is.
-    ensures exact { Answers (tree_of text.now) result }
+    // What is refused has that fault, and a text that has a fault is refused with it, unless memory
+    // runs out.
+    ensures fault { IfErr result (λ e. e ≢ fault.Memory → HasFault text.now e) }
+    ensures only_fault { (e : TextFault) → HasFault text.now e → Answers (Err e) result }
 {
     read(alloc, text)
 }
