@@ -1,4 +1,3 @@
-pub mod Cuts
 pub mod Forms
 pub mod Numbering
 pub mod Names

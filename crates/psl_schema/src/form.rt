@@ -1,19 +1,20 @@
-//! Reading a text of the plain form.
-ghost use Rattle.std.specs.Prelude.{◌≡◌, [], ◌∷◌, true, IfOk};
-ghost use Rattle.std.specs.Option.{option_copied};
+//! Whether a tree is of the plain form, and the table that its model makes.
+ghost use Rattle.std.specs.Prelude.{◌≡◌, [], ◌∷◌, true, map, IfOk, MatchOption};
+ghost use Rattle.std.specs.List.{list_any};
 ghost use Rattle.qe_base.specs.Accepted.{is_accepted};
-ghost use Rattle.psl_schema.specs.Plain.{Answers, words, name_of, kind_of, field_with, field_of, fields_of, lines, model_name, accepted_of, table_of, model_of, body_of, plain_of};
+ghost use Rattle.psl_text.specs.declared.tree.Term.{out-Term};
+ghost use Rattle.psl_schema.specs.Plain.{Answers, all_some, is_string, is_setting, are_settings, kind_of, id_mark, field_with, field_of, accepted_of, table_of, model_of, parts_of, table_in, plain_of};
 
-use crate::accept::{MOST_COLUMNS, is_name, is_plain_model};
-use crate::cut::cut;
+use crate::accept::{MOST_COLUMNS, is_plain_model};
 use crate::tables::table;
+use psl_text::{Attribute, Block, Entry, Mark, Term, Tree, Word};
 use qe_base::{Items, Kind, Memory, Schema, Table, Text};
 use std::alloc::{AllocError, Global};
 
-/// Why a text gives no schema.
+/// Why a tree gives no schema.
 #[derive(Clone, Copy, Debug, PartialEq, Eq)]
 pub enum PlainFault {
-    /// The text isn't of the plain form, or its model breaks a rule.
+    /// The tree isn't of the plain form, or its model breaks a rule.
     Unbuilt,
     Memory,
 }
@@ -40,123 +41,121 @@ impl From<AllocError> for PlainFault {
     }
 }
 
-/// What the line of a field says.
+/// What a field says.
 #[derive(Drop)]
-pub struct FieldLine {
+pub struct PlainField {
     pub name: Text,
     pub kind: Kind,
     pub is_id: bool,
 }
 
-const MOST_BYTES: usize = 1_048_576;
-
-const HEADING: &[u8] = b"datasource d {\nprovider = \"sqlite\"\nrelationMode = \"prisma\"\n}\n";
-
-const ID_MARK: &[u8] = b"@id";
-
-const INT: &[u8] = b"Int";
-
-const STRING: &[u8] = b"String";
-
-const MODEL: &[u8] = b"model";
-
-const OPEN: &[u8] = b"{";
-
-const CLOSE: &[u8] = b"}";
-
-#[tactic(auto, using(crate::proofs::Forms::name_utf8))]
-fn name_text(alloc: Global, word: &[u8]) -> Result<Text, PlainFault>
-    ensures { Answers (name_of word.now) result }
+fn is_string(term: &Term, text: &str) -> bool
+    ensures { result ≡ is_string text.now (out-Term term.now) }
 {
-    if !is_name(word) {
-        return Err(PlainFault::Unbuilt);
-    }
-    match std::str::from_utf8(word) {
-        Ok(name) => Ok(Text::from_str(alloc, name)?),
-        Err(_) => unreachable!(),
+    match term {
+        Term::Text(given, _) => given.is_same(text),
+        Term::Number(..) | Term::Name(_) | Term::Call(..) | Term::List(..) => false,
     }
 }
 
-fn kind_named(word: &[u8]) -> Option<Kind>
-    ensures { result ≡ kind_of word.now }
+fn is_setting(entry: &Entry, name: &str, text: &str) -> bool
+    ensures { result ≡ is_setting name.now text.now entry.now }
 {
-    if word == INT {
-        Some(Kind::Int)
-    } else if word == STRING {
-        Some(Kind::Text)
-    } else {
-        None
+    match entry {
+        Entry::Setting {
+            name: called,
+            value,
+        } => called.text.is_same(name) && is_string(value, text),
+        Entry::Member { .. } | Entry::Field { .. } | Entry::Block { .. } => false,
     }
 }
 
-fn field(alloc: Global, name: &[u8], kind: &[u8], is_id: bool) -> Result<FieldLine, PlainFault>
-    ensures { Answers (field_with is_id name.now kind.now) result }
+fn has_setting(entries: &[Entry], name: &str, text: &str) -> bool
+    ensures { result ≡ list_any (is_setting name.now text.now) entries.now }
 {
-    let name = name_text(alloc, name)?;
-    match kind_named(kind) {
-        None => Err(PlainFault::Unbuilt),
-        Some(kind) => Ok(FieldLine { name, kind, is_id }),
+    entries.iter().any(|entry| is_setting(entry, name, text))
+}
+
+/// Whether a datasource has the two settings, and nothing else.
+fn are_settings(entries: &[Entry]) -> bool
+    ensures { result ≡ are_settings entries.now }
+{
+    entries.len() == 2
+        && has_setting(entries, "provider", "sqlite")
+        && has_setting(entries, "relationMode", "prisma")
+}
+
+fn kind_named(name: &str) -> Option<Kind>
+    ensures { result ≡ kind_of name.now }
+{
+    match name {
+        "Int" => Some(Kind::Int),
+        "String" => Some(Kind::Text),
+        _ => None,
     }
 }
 
-#[tactic(auto, using(crate::proofs::Forms::unmarked))]
-fn field_line(alloc: Global, line: &[u8]) -> Result<FieldLine, PlainFault>
-    ensures { Answers (field_of (words line.now)) result }
+/// Whether the attributes of a field make it the id, or None where they say something else.
+fn id_mark(attributes: &[Attribute]) -> Option<bool>
+    ensures { result ≡ id_mark attributes.now }
 {
-    let Some((name, rest)) = cut(line, b' ') else {
-        return Err(PlainFault::Unbuilt);
-    };
-    match cut(rest, b' ') {
-        None => field(alloc, name, rest, false),
-        Some((kind, mark)) => {
-            if mark == ID_MARK {
-                field(alloc, name, kind, true)
-            } else {
-                Err(PlainFault::Unbuilt)
-            }
+    match attributes {
+        [] => Some(false),
+        [only] if only.name.text.is_same("id") && only.arguments.is_empty() => Some(true),
+        _ => None,
+    }
+}
+
+fn field_with(
+    alloc: Global,
+    name: &Text,
+    kind: Option<Kind>,
+    id: Option<bool>,
+) -> Result<PlainField, PlainFault>
+    ensures { Answers (field_with name.now kind id) result }
+{
+    match (kind, id) {
+        (Some(kind), Some(is_id)) => Ok(PlainField {
+            name: name.copy(alloc)?,
+            kind,
+            is_id,
+        }),
+        _ => Err(PlainFault::Unbuilt),
+    }
+}
+
+fn field(alloc: Global, entry: &Entry) -> Result<PlainField, PlainFault>
+    ensures { Answers (field_of entry.now) result }
+{
+    match entry {
+        Entry::Field {
+            name,
+            kind,
+            mark: Mark::One,
+            attributes,
+            ..
+        } => {
+            let kind = kind_named(kind.text.as_str());
+            field_with(alloc, &name.text, kind, id_mark(attributes.as_slice()))
         }
+        Entry::Field { .. } | Entry::Setting { .. } | Entry::Member { .. } | Entry::Block { .. } =>
+            { Err(PlainFault::Unbuilt) }
     }
 }
 
-#[tactic(auto, using(crate::proofs::Forms::unopened, crate::proofs::Forms::misnamed))]
-fn model_line(alloc: Global, line: &[u8]) -> Result<Text, PlainFault>
-    ensures { Answers (model_name (words line.now)) result }
-{
-    let Some((keyword, rest)) = cut(line, b' ') else {
-        return Err(PlainFault::Unbuilt);
-    };
-    let Some((name, brace)) = cut(rest, b' ') else {
-        return Err(PlainFault::Unbuilt);
-    };
-    if keyword == MODEL && brace == OPEN {
-        name_text(alloc, name)
-    } else {
-        Err(PlainFault::Unbuilt)
-    }
-}
-
-#[tactic(auto, using(crate::proofs::Forms::end_law, crate::proofs::Forms::close_law, crate::proofs::Forms::field_law, crate::proofs::Forms::last_law))]
-fn field_lines(alloc: Global, text: &[u8]) -> Result<Items<FieldLine>, PlainFault>
-    ensures { Answers (fields_of (lines text.now)) result }
+#[tactic(auto, using(crate::proofs::Forms::one_missing, crate::proofs::Forms::one_more))]
+fn fields(alloc: Global, entries: &[Entry]) -> Result<Items<PlainField>, PlainFault>
+    ensures { Answers (all_some (map field_of entries.now)) result }
 {
     let mut fields = Items::new(alloc);
-    let mut rest = text;
-    'lines: while let Some((line, after)) = cut(rest, b'\n') {
-        if line == CLOSE {
-            return if after.is_empty() {
-                Ok(fields)
-            } else {
-                Err(PlainFault::Unbuilt)
-            };
-        }
-        fields.push(field_line(alloc, line)?)?;
-        rest = after;
+    for entry in entries {
+        fields.push(field(alloc, entry)?)?;
     }
-    Err(PlainFault::Unbuilt)
+    Ok(fields)
 }
 
 #[tactic(auto, using(crate::proofs::Forms::too_many, crate::proofs::Forms::lone_accepted))]
-fn accepted_table(alloc: Global, name: Text, fields: &[FieldLine]) -> Result<Table, PlainFault>
+fn accepted_table(alloc: Global, name: Text, fields: &[PlainField]) -> Result<Table, PlainFault>
     ensures told { Answers (accepted_of (table_of name fields.now)) result }
     ensures accepted { IfOk result (λ table. is_accepted (table ∷ []) [] [] [] ≡ true) }
 {
@@ -171,43 +170,50 @@ fn accepted_table(alloc: Global, name: Text, fields: &[FieldLine]) -> Result<Tab
     }
 }
 
-#[tactic(auto, using(crate::proofs::Forms::none_after))]
-fn model(alloc: Global, text: &[u8]) -> Result<Table, PlainFault>
-    ensures told { Answers (model_of (lines text.now)) result }
+fn model(alloc: Global, block: &Block) -> Result<Table, PlainFault>
+    ensures told { Answers (model_of block.now) result }
     ensures accepted { IfOk result (λ table. is_accepted (table ∷ []) [] [] [] ≡ true) }
 {
-    let Some((line, rest)) = cut(text, b'\n') else {
-        return Err(PlainFault::Unbuilt);
-    };
-    let name = model_line(alloc, line)?;
-    let fields = field_lines(alloc, rest)?;
+    let fields = fields(alloc, block.entries.as_slice())?;
+    let name = block.name.text.copy(alloc)?;
     accepted_table(alloc, name, fields.as_slice())
 }
 
-#[tactic(auto, using(crate::proofs::Forms::body_read))]
-fn body(text: &[u8]) -> Option<&[u8]>
-    ensures { option_copied result ≡ body_of text.now }
+/// The datasource and the model, where there is one of each and no other block.
+fn parts(blocks: &[Block]) -> Option<(&Block, &Block)>
+    ensures { MatchOption result (parts_of blocks.now ≡ None) (λ parts. parts_of blocks.now ≡ Some (parts.0.now, parts.1.now)) }
 {
-    if text.len() <= MOST_BYTES && text.starts_with(HEADING) {
-        Some(&text[HEADING.len()..])
-    } else {
-        None
+    let [one, other] = blocks else {
+        return None;
+    };
+    match (one.word, other.word) {
+        (Word::Datasource, Word::Model) => Some((one, other)),
+        (Word::Model, Word::Datasource) => Some((other, one)),
+        _ => None,
     }
 }
 
-/// The schema of a text of the plain form. Want of memory aside, it is refused just where the text
+/// The table of the model of a tree of the plain form.
+fn plain_table(alloc: Global, tree: &Tree) -> Result<Table, PlainFault>
+    ensures told { Answers (table_in tree.now) result }
+    ensures accepted { IfOk result (λ table. is_accepted (table ∷ []) [] [] [] ≡ true) }
+{
+    match parts(tree.blocks.as_slice()) {
+        Some((source, body)) if are_settings(source.entries.as_slice()) => model(alloc, body),
+        _ => Err(PlainFault::Unbuilt),
+    }
+}
+
+/// The schema of a tree of the plain form. Want of memory aside, a tree is refused just where it
 /// isn't of that form.
-pub fn plain(alloc: Global, text: &[u8]) -> Result<Schema, PlainFault>
-    ensures tables { IfOk result (λ schema. plain_of text.now ≡ Some schema.tables) }
+pub fn check(alloc: Global, tree: &Tree) -> Result<Schema, PlainFault>
+    ensures tables { IfOk result (λ schema. plain_of tree.now ≡ Some schema.tables) }
     ensures relations { IfOk result (λ schema. schema.relations ≡ []) }
     ensures links { IfOk result (λ schema. schema.links ≡ []) }
     ensures choices { IfOk result (λ schema. schema.choices ≡ []) }
-    ensures unbuilt { result ≡ Err PlainFault.Unbuilt → plain_of text.now ≡ None }
+    ensures unbuilt { result ≡ Err PlainFault.Unbuilt → plain_of tree.now ≡ None }
 {
-    let Some(body) = body(text) else {
-        return Err(PlainFault::Unbuilt);
-    };
-    let table = model(alloc, body)?;
+    let table = plain_table(alloc, tree)?;
     let mut tables = Items::new(alloc);
     tables.push(table)?;
     Ok(Schema {

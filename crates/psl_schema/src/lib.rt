@@ -1,11 +1,10 @@
-//! Schemas of the plain form of text: one model, whose fields stand a line each.
+//! Schemas of the plain form of trees: a datasource and one model, whose fields are numbers and texts.
 #![tactic(auto)]
 
 mod accept;
-mod cut;
 mod form;
 mod tables;
 #[cfg(test)]
 mod tests;
 
-pub use form::{PlainFault, plain};
+pub use form::{PlainFault, check};

@@ -3,11 +3,11 @@ ghost use Rattle.std.specs.Prelude.{◌≡◌, ◌≤◌, length, map, filter, I
 ghost use Rattle.std.specs.List.{enumerate_from};
 ghost use Rattle.psl_schema.specs.Plain.{column_of, key_of, scalar_of, table_of};
 
-use crate::form::FieldLine;
+use crate::form::PlainField;
 use qe_base::{Column, Field, Fill, Items, Key, Memory, Table, Text};
 use std::alloc::Global;
 
-fn column(alloc: Global, field: &FieldLine) -> Result<Column, Memory>
+fn column(alloc: Global, field: &PlainField) -> Result<Column, Memory>
     ensures { IfOk result (λ column. column ≡ column_of field.now) }
 {
     Ok(Column {
@@ -20,7 +20,7 @@ fn column(alloc: Global, field: &FieldLine) -> Result<Column, Memory>
     })
 }
 
-fn columns(alloc: Global, fields: &[FieldLine]) -> Result<Items<Column>, Memory>
+fn columns(alloc: Global, fields: &[PlainField]) -> Result<Items<Column>, Memory>
     ensures { IfOk result (λ columns. columns ≡ map column_of fields.now) }
 {
     let mut columns = Items::new(alloc);
@@ -30,7 +30,7 @@ fn columns(alloc: Global, fields: &[FieldLine]) -> Result<Items<Column>, Memory>
     Ok(columns)
 }
 
-fn key(alloc: Global, number: u16, field: &FieldLine) -> Result<Key, Memory>
+fn key(alloc: Global, number: u16, field: &PlainField) -> Result<Key, Memory>
     ensures { IfOk result (λ key. key ≡ key_of (number, field.now)) }
 {
     let mut columns = Items::new(alloc);
@@ -42,7 +42,7 @@ fn key(alloc: Global, number: u16, field: &FieldLine) -> Result<Key, Memory>
 }
 
 #[tactic(auto, using(crate::proofs::Numbering::next_id, crate::proofs::Numbering::next_other))]
-fn keys(alloc: Global, fields: &[FieldLine]) -> Result<Items<Key>, Memory>
+fn keys(alloc: Global, fields: &[PlainField]) -> Result<Items<Key>, Memory>
     requires { length fields.now ≤ 128 }
     ensures { IfOk result (λ keys. keys ≡ map key_of (filter (λ field. field.1.is_id) (enumerate_from 0 fields.now))) }
 {
@@ -56,7 +56,7 @@ fn keys(alloc: Global, fields: &[FieldLine]) -> Result<Items<Key>, Memory>
 }
 
 #[tactic(auto, using(crate::proofs::Numbering::next_scalar))]
-fn scalars(alloc: Global, fields: &[FieldLine]) -> Result<Items<(Text, Field)>, Memory>
+fn scalars(alloc: Global, fields: &[PlainField]) -> Result<Items<(Text, Field)>, Memory>
     requires { length fields.now ≤ 128 }
     ensures { IfOk result (λ scalars. scalars ≡ map scalar_of (enumerate_from 0 fields.now)) }
 {
@@ -68,7 +68,7 @@ fn scalars(alloc: Global, fields: &[FieldLine]) -> Result<Items<(Text, Field)>, 
 }
 
 /// The table of a model of this name with these fields.
-pub fn table(alloc: Global, name: Text, fields: &[FieldLine]) -> Result<Table, Memory>
+pub fn table(alloc: Global, name: Text, fields: &[PlainField]) -> Result<Table, Memory>
     requires { length fields.now ≤ 128 }
     ensures { IfOk result (λ table. table ≡ table_of name fields.now) }
 {
