@@ -68,13 +68,10 @@ id_mark [] = Some false
 id_mark (attribute ∷ []) = if bytes_eq attribute.name.text (codes "id") && length attribute.arguments == 0 then Some true else None
 id_mark (attribute ∷ other ∷ others) = None
 
--- the field, where it has a type and says whether it is the id
-abbrev pub field_with : List ℕ → Option Kind → Option Bool → Option PlainField
-field_with name kind id = option_and_then (λ kind. option_map (λ is_id. record { name = name; kind = kind; is_id = is_id }) id) kind
-
 -- what a required field says
 abbrev pub field_of : Entry → Option PlainField
-field_of (entry.Field name kind mark.One attributes docs) = field_with name.text (kind_of kind.text) (id_mark attributes)
+field_of (entry.Field name type mark.One attributes docs) =
+    option_and_then (λ kind. option_map (λ is_id. record { name = name.text; kind = kind; is_id = is_id }) (id_mark attributes)) (kind_of type.text)
 field_of _ = None
 
 -- the column of a field, which is stored by the field's name

@@ -3,7 +3,7 @@ ghost use Rattle.std.specs.Prelude.{◌≡◌, [], ◌∷◌, true, map, IfOk, M
 ghost use Rattle.std.specs.List.{list_any};
 ghost use Rattle.qe_base.specs.Accepted.{is_accepted};
 ghost use Rattle.psl_text.specs.declared.tree.Term.{out-Term};
-ghost use Rattle.psl_schema.specs.Plain.{Answers, all_some, is_string, is_setting, are_settings, kind_of, id_mark, field_with, field_of, accepted_of, table_of, model_of, parts_of, table_in, plain_of};
+ghost use Rattle.psl_schema.specs.Plain.{Answers, all_some, is_string, is_setting, are_settings, kind_of, id_mark, field_of, accepted_of, table_of, model_of, parts_of, table_in, plain_of};
 
 use crate::accept::{MOST_COLUMNS, is_plain_model};
 use crate::tables::table;
@@ -106,24 +106,6 @@ fn id_mark(attributes: &[Attribute]) -> Option<bool>
     }
 }
 
-fn field_with(
-    alloc: Global,
-    name: &Text,
-    kind: Option<Kind>,
-    id: Option<bool>,
-) -> Result<PlainField, PlainFault>
-    ensures { Answers (field_with name.now kind id) result }
-{
-    match (kind, id) {
-        (Some(kind), Some(is_id)) => Ok(PlainField {
-            name: name.copy(alloc)?,
-            kind,
-            is_id,
-        }),
-        _ => Err(PlainFault::Unbuilt),
-    }
-}
-
 fn field(alloc: Global, entry: &Entry) -> Result<PlainField, PlainFault>
     ensures { Answers (field_of entry.now) result }
 {
@@ -135,8 +117,10 @@ fn field(alloc: Global, entry: &Entry) -> Result<PlainField, PlainFault>
             attributes,
             ..
         } => {
-            let kind = kind_named(kind.text.as_str());
-            field_with(alloc, &name.text, kind, id_mark(attributes.as_slice()))
+            let kind = kind_named(kind.text.as_str()).ok_or(PlainFault::Unbuilt)?;
+            let is_id = id_mark(attributes.as_slice()).ok_or(PlainFault::Unbuilt)?;
+            let name = name.text.copy(alloc)?;
+            Ok(PlainField { name, kind, is_id })
         }
         Entry::Field { .. } | Entry::Setting { .. } | Entry::Member { .. } | Entry::Block { .. } =>
             { Err(PlainFault::Unbuilt) }
