@@ -129,5 +129,5 @@ abbrev pub table_in : Tree → Option Table
 table_in tree = option_and_then (λ parts. if are_settings parts.0.entries then model_of parts.1 else None) (parts_of tree.blocks)
 
 -- the tables of a tree of the plain form
-abbrev pub plain_of : Tree → Option (List Table)
+unfoldable pub plain_of : Tree → Option (List Table)
 plain_of tree = option_map (λ table. table ∷ []) (table_in tree)

@@ -190,6 +190,7 @@ fn plain_table(alloc: Global, tree: &Tree) -> Result<Table, PlainFault>
 
 /// The schema of a tree of the plain form. Want of memory aside, a tree is refused just where it
 /// isn't of that form.
+#[tactic(auto, unfolding(crate::specs::Plain::plain_of))]
 pub fn check(alloc: Global, tree: &Tree) -> Result<Schema, PlainFault>
     ensures tables { IfOk result (λ schema. plain_of tree.now ≡ Some schema.tables) }
     ensures relations { IfOk result (λ schema. schema.relations ≡ []) }
