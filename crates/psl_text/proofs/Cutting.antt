@@ -156,3 +156,150 @@ newline_line l docs here above left z (IsLine.fresh empty none e) = IsLine.fresh
 newline_line l docs here above left z (IsLine.doc e ends) = IsLine.fresh refl refl e
 newline_line l docs here above left z (IsLine.used e some none) = IsLine.fresh refl refl (sym (ap (λ d. below d (docs_on above)) none))
 newline_line l docs here above left z (IsLine.plain none ends) = IsLine.fresh refl refl (sym (ap (λ d. below d (docs_on above)) none))
+
+-- ---- the lexer between two pieces
+
+record Stands (c : Cursor) (before : List Piece) (left : List ℕ) : Type 0 where
+  at : c.at ≡ place before
+  brackets : IsStack c.brackets (opened_before before)
+  on : IsLine c.line c.docs (line_of before) (lines_above before) left
+
+-- over one piece: the token that it is, and where the lexer then stands
+record Passes (c : Cursor) (before : List Piece) (p : Piece) (z : List ℕ) : Type 0 where
+  token : (more : List Token) → lex.before (lex.token_at (p.spelling ++ z) c) more ≡ token_by p.kind before p ++ more
+  stands : Stands (lex.cursor_at (p.spelling ++ z) c) (p ∷ before) z
+
+token_found : (k : Kind) (s t z : List ℕ) (c : Cursor) → IsFound k s t z → lex.token_at (s ++ z) c ≡ lex.token_by k (length s) (s ++ z) c
+unfolding lex.token_at
+token_found k s t z c found = ap (λ f. lex.token_by f.0 f.1 (s ++ z) c) found.found
+
+cursor_found : (k : Kind) (s t z : List ℕ) (c : Cursor) → IsFound k s t z → lex.cursor_at (s ++ z) c ≡ lex.cursor_by k (length s) (s ++ z) c
+unfolding lex.cursor_at
+cursor_found k s t z c found = ap (λ f. lex.cursor_by f.0 f.1 (s ++ z) c) found.found
+
+further : (at n : ℕ) (before : List Piece) (p : Piece) → at ≡ place before → n ≡ length p.spelling → at + n ≡ place (p ∷ before)
+unfolding place
+further at n before p e same = omega arith
+
+-- ---- over blanks
+
+pass_blanks : (s t z : List ℕ) (c : Cursor) (before : List Piece) → IsFound kind.Blank s t z → IsInside (s ++ z) → Stands c before (s ++ z) → Passes c before (record { kind = kind.Blank; spelling = s; text = [] }) z
+unfolding opened_before line_of lines_above
+pass_blanks s t z c before found inside stands = record {
+  token = λ more. ap (λ o. lex.before o more) (token_found kind.Blank s t z c found);
+  stands = subst (λ d. Stands d (blank_piece s ∷ before) z) (sym (cursor_found kind.Blank s t z c found)) (record {
+    at = further c.at (length s) before (blank_piece s) stands.at refl;
+    brackets = record { stack = stands.brackets.stack; is = stands.brackets.is; each = stands.brackets.each };
+    on = blank_line s c.line c.docs (line_of before) (lines_above before) (s ++ z) z stands.on inside;
+  });
+}
+
+-- ---- over a comment
+
+behind_comment : (s z : List ℕ) (b : Bool) (c : Cursor) (before : List Piece) → lex.is_doc c.line s ≡ b → BeginsWithout is_in_line z → IsInside (s ++ z) → Stands c before (s ++ z)
+    → Stands (cond b (record c { at = c.at + length s; docs = c.docs ++ lex.doc_of s ∷ []; line = line.Doc }) (record c { at = c.at + length s; line = line.Used })) (comment_piece s ∷ before) z
+unfolding opened_before line_of lines_above
+behind_comment s z true c before is ends inside stands = record {
+  at = further c.at (length s) before (comment_piece s) stands.at refl;
+  brackets = record { stack = stands.brackets.stack; is = stands.brackets.is; each = stands.brackets.each };
+  on = doc_line s c.line c.docs (line_of before) (lines_above before) (s ++ z) z stands.on inside is ends;
+}
+behind_comment s z false c before is ends inside stands = record {
+  at = further c.at (length s) before (comment_piece s) stands.at refl;
+  brackets = record { stack = stands.brackets.stack; is = stands.brackets.is; each = stands.brackets.each };
+  on = comment_line s c.line c.docs (line_of before) (lines_above before) (s ++ z) z stands.on inside is ends;
+}
+
+pass_comment : (s t z : List ℕ) (c : Cursor) (before : List Piece) → IsFound kind.Comment s t z → BeginsWithout is_in_line z → IsInside (s ++ z) → Stands c before (s ++ z) → Passes c before (comment_piece s) z
+pass_comment s t z c before found ends inside stands =
+    let whole : take (length s) (s ++ z) ≡ s = take_at s z (length s) refl in
+    record {
+      token = λ more. ap (λ o. lex.before o more) (token_found kind.Comment s t z c found);
+      stands = subst (λ d. Stands d (comment_piece s ∷ before) z) (sym (cursor_found kind.Comment s t z c found ∙ ap (λ w. lex.behind_comment (length s) w c) whole))
+          (behind_comment s z (lex.is_doc c.line s) c before refl ends inside stands);
+    }
+
+-- ---- over a newline
+
+newline_piece : Piece
+newline_piece = record { kind = kind.Newline; spelling = 10 ∷ []; text = [] }
+
+newline_more : (b : Bool) (t : Token) (more : List Token) → is_fault t.kind ≡ false → lex.before (cond b None (Some t)) more ≡ cond b [] (t ∷ []) ++ more
+newline_more true t more no_fault = refl
+newline_more false t more no_fault = ap (λ f. cond f (t ∷ []) (t ∷ more)) no_fault
+
+pass_newline : (z : List ℕ) (c : Cursor) (before : List Piece) → IsFound kind.Newline (10 ∷ []) [] z → Stands c before (10 ∷ z) → Passes c before newline_piece z
+unfolding opened_before line_of lines_above newline_piece
+pass_newline z c before found stands =
+    let innermost : lex.is_inside c.brackets ≡ lex.is_inside_of (innermost_open before) = ap lex.is_inside_of (innermost_is c.brackets (opened_before before) stands.brackets) in
+    record {
+      token = λ more. ap (λ o. lex.before o more) (token_found kind.Newline (10 ∷ []) [] z c found)
+          ∙ newline_more (lex.is_inside c.brackets) (lex.mark kind.Newline c.at) more refl
+          ∙ ap (λ b. cond b [] (lex.mark kind.Newline c.at ∷ []) ++ more) innermost
+          ∙ ap (λ n. cond (lex.is_inside_of (innermost_open before)) [] (lex.mark kind.Newline n ∷ []) ++ more) stands.at;
+      stands = subst (λ d. Stands d (newline_piece ∷ before) z) (sym (cursor_found kind.Newline (10 ∷ []) [] z c found)) (record {
+        at = further c.at 1 before newline_piece stands.at refl;
+        brackets = record { stack = stands.brackets.stack; is = stands.brackets.is; each = stands.brackets.each };
+        on = newline_line c.line c.docs (line_of before) (lines_above before) (10 ∷ z) z stands.on;
+      });
+    }
+
+-- ---- over any other piece
+
+-- a kind that is a token wherever it stands
+record IsSolid (k : Kind) : Type 0 where
+  token : (n : ℕ) (z : List ℕ) (c : Cursor) → lex.token_by k n z c ≡ Some (lex.whole_token k n z c)
+  cursor : (n : ℕ) (z : List ℕ) (c : Cursor) → lex.cursor_by k n z c ≡ lex.behind_token k n c
+  here : (p : Piece) (here : List Piece) → on_line k p here ≡ p ∷ here
+  above : (here : List Piece) (above : List (List Piece)) → lines_over k here above ≡ above
+  white : is_white k ≡ false
+  doc : (s : List ℕ) (b : Bool) → doc_by k s b ≡ None
+  mine : (before : List Piece) (p : Piece) → token_by k before p ≡ record { kind = k; at = place before; text = p.text; docs = docs_before before } ∷ []
+  no_fault : is_fault k ≡ false
+
+abbrev is_solid : Kind → Bool
+is_solid kind.Blank = false
+is_solid kind.Comment = false
+is_solid kind.Newline = false
+is_solid kind.BadCharacter = false
+is_solid kind.Unclosed = false
+is_solid _ = true
+
+solid : (k : Kind) → is_solid k ≡ true → IsSolid k
+solid kind.Blank e = absurd (cc)
+solid kind.Comment e = absurd (cc)
+solid kind.Newline e = absurd (cc)
+solid kind.BadCharacter e = absurd (cc)
+solid kind.Unclosed e = absurd (cc)
+solid _ e = record { token = λ n z c. refl; cursor = λ n z c. refl; here = λ p here. refl; above = λ here above. refl; white = refl; doc = λ s b. refl; mine = λ before p. refl; no_fault = refl }
+
+solid_line : (k : Kind) (p : Piece) (here : List Piece) (above : List (List Piece)) (z : List ℕ) → IsSolid k → p.kind ≡ k → IsLine line.Used [] (on_line k p here) (lines_over k here above) z
+unfolding is_empty doc_on
+solid_line k p here above z is same =
+    let white : is_white p.kind ≡ false = ap is_white same ∙ is.white in
+    let some : is_empty (p ∷ here) ≡ false = ap (λ b. Rattle.std.specs.Prelude.◌&&◌ b (is_empty here)) white in
+    let none : doc_on (p ∷ here) ≡ None = ap (λ l. doc_by l p.spelling (is_empty here)) same ∙ is.doc p.spelling (is_empty here) in
+    subst (λ w. IsLine line.Used [] w (lines_over k here above) z) (sym (is.here p here)) (IsLine.used refl some none)
+
+pass_solid : (k : Kind) (s t z : List ℕ) (c : Cursor) (before : List Piece) → IsSolid k → IsFound k s t z → IsInside (s ++ z) → Stands c before (s ++ z) → Passes c before (record { kind = k; spelling = s; text = t }) z
+unfolding opened_before line_of lines_above
+pass_solid k s t z c before is found inside stands =
+    let p : Piece = record { kind = k; spelling = s; text = t } in
+    let whole : take (length s) (s ++ z) ≡ s = take_at s z (length s) refl in
+    let docs : c.docs ≡ docs_before before = token_docs c.line c.docs (line_of before) (lines_above before) (s ++ z) stands.on inside in
+    let token : lex.token_at (s ++ z) c ≡ Some (record { kind = k; at = place before; text = t; docs = docs_before before }) =
+    token_found k s t z c found ∙ is.token (length s) (s ++ z) c
+    ∙ ap (λ w. Some (record { kind = k; at = c.at; text = lex.text_of k w; docs = c.docs })) whole
+    ∙ ap (λ w. Some (record { kind = k; at = c.at; text = w; docs = c.docs })) found.text
+    ∙ ap (λ n. Some (record { kind = k; at = n; text = t; docs = c.docs })) stands.at
+    ∙ ap (λ ds. Some (record { kind = k; at = place before; text = t; docs = ds })) docs in
+    record {
+      token = λ more. ap (λ o. lex.before o more) token
+          ∙ ap (λ f. cond f (record { kind = k; at = place before; text = t; docs = docs_before before } ∷ []) (record { kind = k; at = place before; text = t; docs = docs_before before } ∷ more)) is.no_fault
+          ∙ sym (ap (λ ts. ts ++ more) (is.mine before p));
+      stands = subst (λ d. Stands d (p ∷ before) z) (sym (cursor_found k s t z c found ∙ is.cursor (length s) (s ++ z) c)) (record {
+        at = further c.at (length s) before p stands.at refl;
+        brackets = subst (λ n. IsStack (lex.opened k c.at c.brackets) (back_over k n (opened_before before))) stands.at (stack_step k c.at c.brackets (opened_before before) stands.brackets);
+        on = solid_line k p (line_of before) (lines_above before) z is refl;
+      });
+    }
