@@ -221,7 +221,7 @@ pass_comment s t z c before found ends inside stands =
 
 -- ---- over a newline
 
-newline_piece : Piece
+abbrev newline_piece : Piece
 newline_piece = record { kind = kind.Newline; spelling = 10 ∷ []; text = [] }
 
 newline_more : (b : Bool) (t : Token) (more : List Token) → is_fault t.kind ≡ false → lex.before (cond b None (Some t)) more ≡ cond b [] (t ∷ []) ++ more
@@ -229,7 +229,7 @@ newline_more true t more no_fault = refl
 newline_more false t more no_fault = ap (λ f. cond f (t ∷ []) (t ∷ more)) no_fault
 
 pass_newline : (z : List ℕ) (c : Cursor) (before : List Piece) → IsFound kind.Newline (10 ∷ []) [] z → Stands c before (10 ∷ z) → Passes c before newline_piece z
-unfolding opened_before line_of lines_above newline_piece
+unfolding opened_before line_of lines_above
 pass_newline z c before found stands =
     let innermost : lex.is_inside c.brackets ≡ lex.is_inside_of (innermost_open before) = ap lex.is_inside_of (innermost_is c.brackets (opened_before before) stands.brackets) in
     record {
@@ -303,3 +303,139 @@ pass_solid k s t z c before is found inside stands =
         on = solid_line k p (line_of before) (lines_above before) z is refl;
       });
     }
+
+-- ---- over whichever piece
+
+inside_by : (b : ℕ) (z : List ℕ) → is_in_line b ≡ true → IsInside (b ∷ z)
+inside_by b z e = record { byte = b; rest = z; is = refl; inside = e }
+
+blank_inside : (b : ℕ) → is_blank b ≡ true → is_in_line b ≡ true
+blank_inside b e = grind (arith, nat_tests)
+
+letter_inside : (b : ℕ) → is_ascii_alphabetic b ≡ true → is_in_line b ≡ true
+letter_inside b e = grind (arith, nat_tests)
+
+digit_inside : (b : ℕ) → is_digit b ≡ true → is_in_line b ≡ true
+digit_inside b e = grind (arith, nat_tests)
+
+-- what a sign is
+record IsPlain (b : ℕ) (k : Kind) : Type 0 where
+  inside : is_in_line b ≡ true
+  solid : is_solid k ≡ true
+
+sign_plain : (b : ℕ) (k : Kind) → IsSign b k → IsPlain b k
+sign_plain b k IsSign.open_brace = record { inside = refl; solid = refl }
+sign_plain b k IsSign.close_brace = record { inside = refl; solid = refl }
+sign_plain b k IsSign.open_parenthesis = record { inside = refl; solid = refl }
+sign_plain b k IsSign.close_parenthesis = record { inside = refl; solid = refl }
+sign_plain b k IsSign.open_bracket = record { inside = refl; solid = refl }
+sign_plain b k IsSign.close_bracket = record { inside = refl; solid = refl }
+sign_plain b k IsSign.comma = record { inside = refl; solid = refl }
+sign_plain b k IsSign.colon = record { inside = refl; solid = refl }
+sign_plain b k IsSign.equals = record { inside = refl; solid = refl }
+sign_plain b k IsSign.question_mark = record { inside = refl; solid = refl }
+sign_plain b k IsSign.dot = record { inside = refl; solid = refl }
+sign_plain b k IsSign.at = record { inside = refl; solid = refl }
+
+pass_piece : (k : Kind) (s t z : List ℕ) (c : Cursor) (before : List Piece) → Spells k s t → EndsBefore k z → IsFound k s t z → Stands c before (s ++ z) → Passes c before (record { kind = k; spelling = s; text = t }) z
+pass_piece k s t z c before (Spells.blanks {b} {z = w} first every) ends found stands = pass_blanks (b ∷ w) [] z c before found (inside_by b (w ++ z) (blank_inside b first)) stands
+pass_piece k s t z c before (Spells.comment {z = w} every) ends found stands = pass_comment (47 ∷ 47 ∷ w) [] z c before found ends (inside_by 47 (47 ∷ w ++ z) refl) stands
+pass_piece k s t z c before Spells.newline ends found stands = pass_newline z c before found stands
+pass_piece k s t z c before (Spells.name {b} {z = w} first every) ends found stands =
+    pass_solid kind.Name (b ∷ w) (b ∷ w) z c before (solid kind.Name refl) found (inside_by b (w ++ z) (letter_inside b first)) stands
+pass_piece k s t z c before (Spells.number {b} {z = w} first every) ends found stands =
+    pass_solid kind.Number (b ∷ w) (b ∷ w) z c before (solid kind.Number refl) found (inside_by b (w ++ z) (digit_inside b first)) stands
+pass_piece k s t z c before (Spells.negative {b} {z = w} first every) ends found stands =
+    pass_solid kind.Number (45 ∷ b ∷ w) (45 ∷ b ∷ w) z c before (solid kind.Number refl) found (inside_by 45 (b ∷ w ++ z) refl) stands
+pass_piece k s t z c before (Spells.string {content} {meaning} means) ends found stands =
+    pass_solid kind.Text (34 ∷ content ++ 34 ∷ []) meaning z c before (solid kind.Text refl) found (inside_by 34 ((content ++ 34 ∷ []) ++ z) refl) stands
+pass_piece k s t z c before (Spells.sign {b} {k = l} is) ends found stands =
+    let plain = sign_plain b l is in
+    pass_solid l (b ∷ []) [] z c before (solid l plain.solid) found (inside_by b z plain.inside) stands
+pass_piece k s t z c before Spells.two_at ends found stands = pass_solid kind.AtAt (64 ∷ 64 ∷ []) [] z c before (solid kind.AtAt refl) found (inside_by 64 (64 ∷ z) refl) stands
+
+-- ---- over all pieces
+
+-- the lexer on a text whose front is found
+tokens_step : (p : Piece) (z : List ℕ) (c : Cursor) → IsFound p.kind p.spelling p.text z
+    → lex.tokens_from 0 c (p.spelling ++ z) ≡ lex.before (lex.token_at (p.spelling ++ z) c) (lex.tokens_from 0 (lex.cursor_at (p.spelling ++ z) c) z)
+tokens_step p z c found =
+    let count : (front (p.spelling ++ z)).1 ≡ length p.spelling = ap (λ f. f.1) found.found in
+    let more : 0 < length (p.spelling ++ z) = omega (arith, found.some, length-append p.spelling z) in
+    one_step (p.spelling ++ z) c more (omega (arith, found.some, count))
+    ∙ ap (λ w. lex.before (lex.token_at (p.spelling ++ z) c) (lex.tokens_from 0 (lex.cursor_at (p.spelling ++ z) c) w)) (ap (λ n. drop n (p.spelling ++ z)) count ∙ drop_at p.spelling z (length p.spelling) refl)
+
+cut_tokens : (last : List Piece → Token) (text rest : List ℕ) (ps : List Piece) → IsCut text ps rest → ((c : Cursor) (before : List Piece) → Stands c before rest → lex.tokens_from 0 c rest ≡ last before ∷ [])
+    → (c : Cursor) (before : List Piece) → Stands c before text → lex.tokens_from 0 c text ≡ tokens_among last before ps
+unfolding tokens_among
+cut_tokens last text rest ps IsCut.none at_end c before stands = at_end c before stands
+cut_tokens last text rest ps (IsCut.more {p} {ps = qs} {z} spells ends cut) at_end c before stands =
+    let found = spelled_found p.kind p.spelling p.text z spells ends in
+    let passes = pass_piece p.kind p.spelling p.text z c before spells ends found stands in
+    tokens_step p z c found ∙ passes.token (lex.tokens_from 0 (lex.cursor_at (p.spelling ++ z) c) z)
+    ∙ ap (λ ts. token_by p.kind before p ++ ts) (cut_tokens last z rest qs cut at_end (lex.cursor_at (p.spelling ++ z) c) (p ∷ before) passes.stands)
+
+-- ---- the last token
+
+end_same : (c : Cursor) (before : List Piece) → Stands c before [] → lex.tokens_from 0 c [] ≡ end_behind before ∷ []
+unfolding lex.tokens_from lex.end_of
+end_same c before stands =
+    ap (λ o. lex.end_by o c.at ∷ []) (innermost_is c.brackets (opened_before before) stands.brackets) ∙ ap (λ n. lex.end_by (innermost_open before) n ∷ []) stands.at
+    ∙ ap (λ t. t ∷ []) (by_bracket (innermost_open before) (place before))
+  where
+    by_bracket : (o : Option Bracket) (n : ℕ) → lex.end_by o n ≡ end_in o n
+    by_bracket None n = refl
+    by_bracket (Some b) n = refl
+
+fault_token : (k : Kind) (n : ℕ) (z : List ℕ) (c : Cursor) → is_fault k ≡ true → lex.token_by k n z c ≡ Some (lex.mark k (c.at + n))
+fault_token kind.BadCharacter n z c e = refl
+fault_token kind.Unclosed n z c e = refl
+fault_token _ n z c e = absurd (cc)
+
+fault_same : (z : List ℕ) (k : Kind) (n : ℕ) → Breaks z k n → (c : Cursor) (before : List Piece) → Stands c before z → lex.tokens_from 0 c z ≡ fault_behind k n before ∷ []
+unfolding lex.token_at
+fault_same z k n breaks c before stands =
+    let fault = breaks_fault z k n breaks in
+    let is : lex.token_at z c ≡ Some (lex.mark k (place before + n)) =
+    ap (λ f. lex.token_by f.0 f.1 z c) (breaks_found z k n breaks) ∙ fault_token k n z c fault ∙ ap (λ m. Some (lex.mark k (m + n))) stands.at in
+    last_of z c (lex.mark k (place before + n)) (breaks_some z k n breaks) (sym is) fault
+
+-- ---- the tokens of a text
+
+start_stands : (text : List ℕ) → Stands lex.start [] text
+unfolding place opened_before line_of lines_above is_empty doc_on docs_on nth turned
+start_stands text = record { at = refl; brackets = record { stack = []; is = refl; each = λ n. refl }; on = IsLine.fresh refl refl refl }
+
+-- no other tokens are those of a text
+pub tokens_only : (text : List ℕ) (ts : List Token) → HasTokens text ts → ts ≡ lex.tokens_of text
+unfolding lex.tokens_of
+tokens_only text ts (HasTokens.whole {ps} cut) = sym (cut_tokens end_behind text [] ps cut end_same lex.start [] (start_stands text))
+tokens_only text ts (HasTokens.broken {ps} {rest} {k} {n} cut breaks) = sym (cut_tokens (fault_behind k n) text rest ps cut (fault_same rest k n breaks) lex.start [] (start_stands text))
+
+-- a text is cut to its end, or up to a fault
+data IsCuttable : List ℕ → Type 0 where
+  whole : {z : List ℕ} {ps : List Piece} → IsCut z ps [] → IsCuttable z
+  broken : {z rest : List ℕ} {ps : List Piece} {k : Kind} {n : ℕ} → IsCut z ps rest → Breaks rest k n → IsCuttable z
+
+one_more : (k : Kind) (s t z : List ℕ) → Spells k s t → EndsBefore k z → IsCuttable z → IsCuttable (s ++ z)
+one_more k s t z spells ends (IsCuttable.whole {ps} cut) = IsCuttable.whole (IsCut.more {p = record { kind = k; spelling = s; text = t }} spells ends cut)
+one_more k s t z spells ends (IsCuttable.broken cut breaks) = IsCuttable.broken (IsCut.more {p = record { kind = k; spelling = s; text = t }} spells ends cut) breaks
+
+cut_front : (n : ℕ) (z : List ℕ) → HasFront z → length z ≤ suc n → ((w : List ℕ) → length w ≤ n → IsCuttable w) → IsCuttable z
+cut_front n z (HasFront.piece {k} {s} {t} w spells ends) small again =
+    let found = spelled_found k s t w spells ends in
+    one_more k s t w spells ends (again w (omega (arith, found.some, length-append s w)))
+cut_front n z (HasFront.breaks breaks) small again = IsCuttable.broken IsCut.none breaks
+
+cut_within : (n : ℕ) (z : List ℕ) → length z ≤ n → IsCuttable z
+cut_within n [] small = IsCuttable.whole IsCut.none
+cut_within zero (b ∷ z) small = absurd (omega arith)
+cut_within (suc n) (b ∷ z) small = cut_front n (b ∷ z) (has_front b z) small (λ w few. cut_within n w few)
+
+has_tokens : (text : List ℕ) → IsCuttable text → HasTokens text (lex.tokens_of text)
+has_tokens text (IsCuttable.whole {ps} cut) = subst (HasTokens text) (tokens_only text (tokens_among end_behind [] ps) (HasTokens.whole cut)) (HasTokens.whole cut)
+has_tokens text (IsCuttable.broken {ps} {k} {n} cut breaks) = subst (HasTokens text) (tokens_only text (tokens_among (fault_behind k n) [] ps) (HasTokens.broken cut breaks)) (HasTokens.broken cut breaks)
+
+-- the tokens that the lexer finds are those of the text
+pub tokens_are : (text : List ℕ) → HasTokens text (lex.tokens_of text)
+tokens_are text = has_tokens text (cut_within (length text) text (omega arith))
