@@ -14,7 +14,7 @@ use Rattle.psl_text.specs.declared.lexer.Cursor.{Cursor}
 use Rattle.psl_text.specs.Scan.{is_blank, is_digit, is_in_line, front, is_fault}
 use Rattle.psl_text.specs.Lex as lex
 use Rattle.psl_text.specs.Spelling.{IsSign, Spells, BeginsWithout, EndsBefore, Breaks}
-use Rattle.psl_text.specs.Tokens.{Piece, IsCut, place, back_over, opened_before, innermost_open, on_line, lines_over, line_of, lines_above, is_white, is_empty, doc_by, doc_on, below, docs_on, docs_before, newline_behind, token_by, tokens_among, end_in, end_behind, fault_behind, HasTokens}
+use Rattle.psl_text.specs.Tokens.{Piece, IsCut, place, back_over, open_before, innermost_open, on_line, one_above, line_of, lines_above, is_white, is_empty, doc_in, doc_on, below, docs_on, docs_before, newline_in, token_by, tokens_among, end_in, end_behind, fault_behind, HasTokens}
 use Rattle.psl_text.proofs.Spelled.{IsFound, spelled_found}
 use Rattle.psl_text.proofs.Fronts.{HasFront, has_front, breaks_found, breaks_fault, breaks_some}
 use Rattle.psl_text.proofs.Tokens.{one_step, last_of}
@@ -135,7 +135,7 @@ doc_line : (s : List ℕ) (l : Line) (docs : List (List ℕ)) (here : List Piece
     → lex.is_doc l s ≡ true → BeginsWithout is_in_line z → IsLine line.Doc (docs ++ lex.doc_of s ∷ []) (comment_piece s ∷ here) above z
 unfolding doc_on docs_on
 doc_line s l docs here above left z (IsLine.fresh empty none e) i is ends =
-    let found : doc_on (comment_piece s ∷ here) ≡ Some (lex.doc_of s) = ap (doc_by kind.Comment s) empty ∙ ap (λ b. cond b (Some (lex.doc_of s)) None) is in
+    let found : doc_on (comment_piece s ∷ here) ≡ Some (lex.doc_of s) = ap (doc_in kind.Comment s) empty ∙ ap (λ b. cond b (Some (lex.doc_of s)) None) is in
     IsLine.doc (ap (λ ds. ds ++ lex.doc_of s ∷ []) e ∙ sym (ap (λ d. below d (docs_on above)) found)) ends
 doc_line s l docs here above left z (IsLine.doc e before) i is ends = absurd (cc)
 doc_line s l docs here above left z (IsLine.used e some none) i is ends = absurd (cc)
@@ -145,9 +145,9 @@ comment_line : (s : List ℕ) (l : Line) (docs : List (List ℕ)) (here : List P
     → lex.is_doc l s ≡ false → BeginsWithout is_in_line z → IsLine line.Used docs (comment_piece s ∷ here) above z
 unfolding doc_on
 comment_line s l docs here above left z (IsLine.fresh empty none e) i is ends =
-    IsLine.plain (ap (doc_by kind.Comment s) empty ∙ ap (λ b. cond b (Some (lex.doc_of s)) None) is) ends
+    IsLine.plain (ap (doc_in kind.Comment s) empty ∙ ap (λ b. cond b (Some (lex.doc_of s)) None) is) ends
 comment_line s l docs here above left z (IsLine.doc e before) i is ends = absurd (inside_clash left i before)
-comment_line s l docs here above left z (IsLine.used e some none) i is ends = IsLine.plain (ap (doc_by kind.Comment s) some) ends
+comment_line s l docs here above left z (IsLine.used e some none) i is ends = IsLine.plain (ap (doc_in kind.Comment s) some) ends
 comment_line s l docs here above left z (IsLine.plain none before) i is ends = absurd (inside_clash left i before)
 
 newline_line : (l : Line) (docs : List (List ℕ)) (here : List Piece) (above : List (List Piece)) (left z : List ℕ) → IsLine l docs here above left → IsLine line.Fresh (lex.docs_below l docs) [] (here ∷ above) z
@@ -161,7 +161,7 @@ newline_line l docs here above left z (IsLine.plain none ends) = IsLine.fresh re
 
 record Stands (c : Cursor) (before : List Piece) (left : List ℕ) : Type 0 where
   at : c.at ≡ place before
-  brackets : IsStack c.brackets (opened_before before)
+  brackets : IsStack c.brackets (open_before before)
   on : IsLine c.line c.docs (line_of before) (lines_above before) left
 
 -- over one piece: the token that it is, and where the lexer then stands
@@ -184,7 +184,7 @@ further at n before p e same = omega arith
 -- ---- over blanks
 
 pass_blanks : (s t z : List ℕ) (c : Cursor) (before : List Piece) → IsFound kind.Blank s t z → IsInside (s ++ z) → Stands c before (s ++ z) → Passes c before (record { kind = kind.Blank; spelling = s; text = [] }) z
-unfolding opened_before line_of lines_above
+unfolding open_before line_of lines_above
 pass_blanks s t z c before found inside stands = record {
   token = λ more. ap (λ o. lex.before o more) (token_found kind.Blank s t z c found);
   stands = subst (λ d. Stands d (blank_piece s ∷ before) z) (sym (cursor_found kind.Blank s t z c found)) (record {
@@ -198,7 +198,7 @@ pass_blanks s t z c before found inside stands = record {
 
 behind_comment : (s z : List ℕ) (b : Bool) (c : Cursor) (before : List Piece) → lex.is_doc c.line s ≡ b → BeginsWithout is_in_line z → IsInside (s ++ z) → Stands c before (s ++ z)
     → Stands (cond b (record c { at = c.at + length s; docs = c.docs ++ lex.doc_of s ∷ []; line = line.Doc }) (record c { at = c.at + length s; line = line.Used })) (comment_piece s ∷ before) z
-unfolding opened_before line_of lines_above
+unfolding open_before line_of lines_above
 behind_comment s z true c before is ends inside stands = record {
   at = further c.at (length s) before (comment_piece s) stands.at refl;
   brackets = record { stack = stands.brackets.stack; is = stands.brackets.is; each = stands.brackets.each };
@@ -224,19 +224,23 @@ pass_comment s t z c before found ends inside stands =
 abbrev newline_piece : Piece
 newline_piece = record { kind = kind.Newline; spelling = 10 ∷ []; text = [] }
 
-newline_more : (b : Bool) (t : Token) (more : List Token) → is_fault t.kind ≡ false → lex.before (cond b None (Some t)) more ≡ cond b [] (t ∷ []) ++ more
-newline_more true t more no_fault = refl
-newline_more false t more no_fault = ap (λ f. cond f (t ∷ []) (t ∷ more)) no_fault
+newline_more : (o : Option Bracket) (at : ℕ) (more : List Token) → lex.before (cond (lex.is_inside_of o) None (Some (lex.mark kind.Newline at))) more ≡ newline_in o at ++ more
+newline_more None at more = refl
+newline_more (Some b) at more = by_form b.is_brace
+  where
+    by_form : (is_brace : Bool) → lex.before (cond (Rattle.std.specs.Prelude.not is_brace) None (Some (lex.mark kind.Newline at))) more ≡ cond is_brace (lex.mark kind.Newline at ∷ []) [] ++ more
+    by_form true = refl
+    by_form false = refl
 
 pass_newline : (z : List ℕ) (c : Cursor) (before : List Piece) → IsFound kind.Newline (10 ∷ []) [] z → Stands c before (10 ∷ z) → Passes c before newline_piece z
-unfolding opened_before line_of lines_above
+unfolding open_before line_of lines_above
 pass_newline z c before found stands =
-    let innermost : lex.is_inside c.brackets ≡ lex.is_inside_of (innermost_open before) = ap lex.is_inside_of (innermost_is c.brackets (opened_before before) stands.brackets) in
+    let innermost : lex.is_inside c.brackets ≡ lex.is_inside_of (innermost_open before) = ap lex.is_inside_of (innermost_is c.brackets (open_before before) stands.brackets) in
     record {
       token = λ more. ap (λ o. lex.before o more) (token_found kind.Newline (10 ∷ []) [] z c found)
-          ∙ newline_more (lex.is_inside c.brackets) (lex.mark kind.Newline c.at) more refl
-          ∙ ap (λ b. cond b [] (lex.mark kind.Newline c.at ∷ []) ++ more) innermost
-          ∙ ap (λ n. cond (lex.is_inside_of (innermost_open before)) [] (lex.mark kind.Newline n ∷ []) ++ more) stands.at;
+          ∙ ap (λ b. lex.before (cond b None (Some (lex.mark kind.Newline c.at))) more) innermost
+          ∙ newline_more (innermost_open before) c.at more
+          ∙ ap (λ n. newline_in (innermost_open before) n ++ more) stands.at;
       stands = subst (λ d. Stands d (newline_piece ∷ before) z) (sym (cursor_found kind.Newline (10 ∷ []) [] z c found)) (record {
         at = further c.at 1 before newline_piece stands.at refl;
         brackets = record { stack = stands.brackets.stack; is = stands.brackets.is; each = stands.brackets.each };
@@ -251,9 +255,9 @@ record IsSolid (k : Kind) : Type 0 where
   token : (n : ℕ) (z : List ℕ) (c : Cursor) → lex.token_by k n z c ≡ Some (lex.whole_token k n z c)
   cursor : (n : ℕ) (z : List ℕ) (c : Cursor) → lex.cursor_by k n z c ≡ lex.behind_token k n c
   here : (p : Piece) (here : List Piece) → on_line k p here ≡ p ∷ here
-  above : (here : List Piece) (above : List (List Piece)) → lines_over k here above ≡ above
+  above : (here : List Piece) (above : List (List Piece)) → one_above k here above ≡ above
   white : is_white k ≡ false
-  doc : (s : List ℕ) (b : Bool) → doc_by k s b ≡ None
+  doc : (s : List ℕ) (b : Bool) → doc_in k s b ≡ None
   mine : (before : List Piece) (p : Piece) → token_by k before p ≡ record { kind = k; at = place before; text = p.text; docs = docs_before before } ∷ []
   no_fault : is_fault k ≡ false
 
@@ -273,16 +277,16 @@ solid kind.BadCharacter e = absurd (cc)
 solid kind.Unclosed e = absurd (cc)
 solid _ e = record { token = λ n z c. refl; cursor = λ n z c. refl; here = λ p here. refl; above = λ here above. refl; white = refl; doc = λ s b. refl; mine = λ before p. refl; no_fault = refl }
 
-solid_line : (k : Kind) (p : Piece) (here : List Piece) (above : List (List Piece)) (z : List ℕ) → IsSolid k → p.kind ≡ k → IsLine line.Used [] (on_line k p here) (lines_over k here above) z
+solid_line : (k : Kind) (p : Piece) (here : List Piece) (above : List (List Piece)) (z : List ℕ) → IsSolid k → p.kind ≡ k → IsLine line.Used [] (on_line k p here) (one_above k here above) z
 unfolding is_empty doc_on
 solid_line k p here above z is same =
     let white : is_white p.kind ≡ false = ap is_white same ∙ is.white in
     let some : is_empty (p ∷ here) ≡ false = ap (λ b. Rattle.std.specs.Prelude.◌&&◌ b (is_empty here)) white in
-    let none : doc_on (p ∷ here) ≡ None = ap (λ l. doc_by l p.spelling (is_empty here)) same ∙ is.doc p.spelling (is_empty here) in
-    subst (λ w. IsLine line.Used [] w (lines_over k here above) z) (sym (is.here p here)) (IsLine.used refl some none)
+    let none : doc_on (p ∷ here) ≡ None = ap (λ l. doc_in l p.spelling (is_empty here)) same ∙ is.doc p.spelling (is_empty here) in
+    subst (λ w. IsLine line.Used [] w (one_above k here above) z) (sym (is.here p here)) (IsLine.used refl some none)
 
 pass_solid : (k : Kind) (s t z : List ℕ) (c : Cursor) (before : List Piece) → IsSolid k → IsFound k s t z → IsInside (s ++ z) → Stands c before (s ++ z) → Passes c before (record { kind = k; spelling = s; text = t }) z
-unfolding opened_before line_of lines_above
+unfolding open_before line_of lines_above
 pass_solid k s t z c before is found inside stands =
     let p : Piece = record { kind = k; spelling = s; text = t } in
     let whole : take (length s) (s ++ z) ≡ s = take_at s z (length s) refl in
@@ -299,7 +303,7 @@ pass_solid k s t z c before is found inside stands =
           ∙ sym (ap (λ ts. ts ++ more) (is.mine before p));
       stands = subst (λ d. Stands d (p ∷ before) z) (sym (cursor_found k s t z c found ∙ is.cursor (length s) (s ++ z) c)) (record {
         at = further c.at (length s) before p stands.at refl;
-        brackets = subst (λ n. IsStack (lex.opened k c.at c.brackets) (back_over k n (opened_before before))) stands.at (stack_step k c.at c.brackets (opened_before before) stands.brackets);
+        brackets = subst (λ n. IsStack (lex.opened k c.at c.brackets) (back_over k n (open_before before))) stands.at (stack_step k c.at c.brackets (open_before before) stands.brackets);
         on = solid_line k p (line_of before) (lines_above before) z is refl;
       });
     }
@@ -380,7 +384,7 @@ cut_tokens last text rest ps (IsCut.more {p} {ps = qs} {z} spells ends cut) at_e
 end_same : (c : Cursor) (before : List Piece) → Stands c before [] → lex.tokens_from 0 c [] ≡ end_behind before ∷ []
 unfolding lex.tokens_from lex.end_of
 end_same c before stands =
-    ap (λ o. lex.end_by o c.at ∷ []) (innermost_is c.brackets (opened_before before) stands.brackets) ∙ ap (λ n. lex.end_by (innermost_open before) n ∷ []) stands.at
+    ap (λ o. lex.end_by o c.at ∷ []) (innermost_is c.brackets (open_before before) stands.brackets) ∙ ap (λ n. lex.end_by (innermost_open before) n ∷ []) stands.at
     ∙ ap (λ t. t ∷ []) (by_bracket (innermost_open before) (place before))
   where
     by_bracket : (o : Option Bracket) (n : ℕ) → lex.end_by o n ≡ end_in o n
@@ -403,7 +407,7 @@ fault_same z k n breaks c before stands =
 -- ---- the tokens of a text
 
 start_stands : (text : List ℕ) → Stands lex.start [] text
-unfolding place opened_before line_of lines_above is_empty doc_on docs_on nth turned
+unfolding place open_before line_of lines_above is_empty doc_on docs_on nth turned
 start_stands text = record { at = refl; brackets = record { stack = []; is = refl; each = λ n. refl }; on = IsLine.fresh refl refl refl }
 
 -- no other tokens are those of a text

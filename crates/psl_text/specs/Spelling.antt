@@ -1,9 +1,10 @@
--- How the pieces of a text are spelled: tokens, blanks and comments. Characters stand as bytes.
-use Rattle.std.specs.Prelude.{◌≡◌, ◌≢◌, ◌<◌, ◌≤◌, ℕ, ◌+◌, Bool, true, false, ◌==◌, List, [], ◌∷◌, ◌++◌, length}
+-- How the pieces of a text are spelled: tokens, blanks, comments and newlines. A text is its bytes: 34 is the quote, 92
+-- the backslash, 47 the slash, 45 the minus, 64 the sign @, 10 the newline.
+use Rattle.std.specs.Prelude.{◌≡◌, ◌≢◌, ◌<◌, ◌≤◌, ℕ, ◌+◌, ◌-◌, Bool, true, false, ◌==◌, List, [], ◌∷◌, ◌++◌, length, take, drop, slice_index}
 use Rattle.std.specs.Char.{is_ascii_alphabetic}
 use Rattle.psl_text.specs.declared.token.Kind.{Kind}
 use Rattle.psl_text.specs.declared.token.Kind.TheVariants as kind
-use Rattle.psl_text.specs.Scan.{is_blank, is_word, is_digit, is_in_line}
+use Rattle.psl_text.specs.Scan.{is_blank, is_word, is_digit, is_in_line, last_run}
 
 -- ---- spellings
 
@@ -12,7 +13,7 @@ pub data Every (passes : ℕ → Bool) : List ℕ → Type 0 where
   none : Every passes []
   more : {b : ℕ} {z : List ℕ} → passes b ≡ true → Every passes z → Every passes (b ∷ z)
 
--- what stands behind a backslash, and what it stands for there: " \ n r t
+-- what may stand behind a backslash, " \ n r t, and what it stands for there
 pub data IsEscape : ℕ → ℕ → Type 0 where
   quote : IsEscape 34 34
   backslash : IsEscape 92 92
@@ -53,9 +54,19 @@ pub data Spells : Kind → List ℕ → List ℕ → Type 0 where
   sign : {b : ℕ} {k : Kind} → IsSign b k → Spells k (b ∷ []) []
   two_at : Spells kind.AtAt (64 ∷ 64 ∷ []) []
 
+-- ---- documentation
+
+-- a comment that begins with three slashes
+abbrev pub is_doc_comment : List ℕ → Bool
+is_doc_comment z = slice_index z 2 == 47
+
+-- what stands behind the three slashes, without white space at its end
+abbrev pub doc_of : List ℕ → List ℕ
+doc_of z = take (length (drop 3 z) - last_run is_blank (drop 3 z)) (drop 3 z)
+
 -- ---- the longest spelling
 
--- with which characters a piece of this kind goes on
+-- the characters that a piece of this kind goes on with
 abbrev pub goes_on : Kind → ℕ → Bool
 goes_on kind.Blank = is_blank
 goes_on kind.Comment = is_in_line
@@ -64,27 +75,27 @@ goes_on kind.Number = is_digit
 goes_on kind.At = λ b. b == 64
 goes_on _ = λ b. false
 
--- no character that passes the test stands at the front
+-- at the front stands no character that passes the test
 pub data BeginsWithout (passes : ℕ → Bool) : List ℕ → Type 0 where
   at_end : BeginsWithout passes []
   other : {b : ℕ} {z : List ℕ} → passes b ≡ false → BeginsWithout passes (b ∷ z)
 
--- A piece of this kind, with this behind it, could not have been longer.
+-- A piece of this kind that has this behind it could not have been longer.
 abbrev pub EndsBefore : Kind → List ℕ → Type 0
 EndsBefore k z = BeginsWithout (goes_on k) z
 
 -- ---- no spelling
 
--- Nothing is spelled at the front of a text: why, and how far behind the front.
+-- Nothing is spelled at the front of a text: why, and how far behind the front the fault is.
 pub data Breaks : List ℕ → Kind → ℕ → Type 0 where
-  -- a string at the end of its line
+  -- the line of a string ends
   unclosed : {content meaning z : List ℕ} → IsContent content meaning → BeginsWithout is_in_line z → Breaks (34 ∷ content ++ z) kind.Unclosed 0
-  -- the same behind a backslash
+  -- it ends behind a backslash
   unclosed_escape : {content meaning z : List ℕ} → IsContent content meaning → BeginsWithout is_in_line z → Breaks (34 ∷ content ++ 92 ∷ z) kind.Unclosed 0
   -- a control character in a string
   control : {content meaning : List ℕ} {b : ℕ} (z : List ℕ) → IsContent content meaning → b < 32 → is_in_line b ≡ true → Breaks (34 ∷ content ++ b ∷ z) kind.BadCharacter (1 + length content)
   -- a character behind a backslash that is no escape
   bad_escape : {content meaning : List ℕ} {b : ℕ} (z : List ℕ) → IsContent content meaning → ((c : ℕ) → IsEscape b c → ⊥) → is_in_line b ≡ true
       → Breaks (34 ∷ content ++ 92 ∷ b ∷ z) kind.BadCharacter (2 + length content)
-  -- anything else than a string that is not the front of a spelling
+  -- a character, but the quote, with which no spelling begins here
   bad_character : {b : ℕ} {z : List ℕ} → b ≢ 34 → ((k : Kind) (spelling rest meaning : List ℕ) → b ∷ z ≡ spelling ++ rest → Spells k spelling meaning → ⊥) → Breaks (b ∷ z) kind.BadCharacter 0
