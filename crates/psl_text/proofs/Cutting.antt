@@ -2,7 +2,7 @@
 use Rattle.std.proofs.Common.{◌≡◌, ◌≢◌, ℕ, zero, suc, ◌+◌, ◌-◌, ◌<◌, ◌≤◌, ◌==◌, Bool, true, false, cond, List, [], ◌∷◌, ◌++◌, length, take, drop, Option, Some, None, inl, inr, refl, sym, ap, subst, ◌∙◌, ◌⊎◌, arith, append_assoc}
 use Rattle.std.proofs.lemmas.Bool.Decides.{nat_tests}
 use Rattle.std.proofs.lemmas.List.{length-append, take_at, drop_at}
-use Rattle.std.specs.Prelude.{slice_get}
+use Rattle.std.specs.Prelude.{slice_get, not, ◌&&◌}
 use Rattle.std.specs.Char.{is_ascii_alphabetic}
 use Rattle.psl_text.specs.declared.token.Kind.{Kind}
 use Rattle.psl_text.specs.declared.token.Kind.TheVariants as kind
@@ -228,7 +228,7 @@ newline_more : (o : Option Bracket) (at : ℕ) (more : List Token) → lex.befor
 newline_more None at more = refl
 newline_more (Some b) at more = by_form b.is_brace
   where
-    by_form : (is_brace : Bool) → lex.before (cond (Rattle.std.specs.Prelude.not is_brace) None (Some (lex.mark kind.Newline at))) more ≡ cond is_brace (lex.mark kind.Newline at ∷ []) [] ++ more
+    by_form : (is_brace : Bool) → lex.before (cond (not is_brace) None (Some (lex.mark kind.Newline at))) more ≡ cond is_brace (lex.mark kind.Newline at ∷ []) [] ++ more
     by_form true = refl
     by_form false = refl
 
@@ -281,7 +281,7 @@ solid_line : (k : Kind) (p : Piece) (here : List Piece) (above : List (List Piec
 unfolding is_empty doc_on
 solid_line k p here above z is same =
     let white : is_white p.kind ≡ false = ap is_white same ∙ is.white in
-    let some : is_empty (p ∷ here) ≡ false = ap (λ b. Rattle.std.specs.Prelude.◌&&◌ b (is_empty here)) white in
+    let some : is_empty (p ∷ here) ≡ false = ap (λ b. b && is_empty here) white in
     let none : doc_on (p ∷ here) ≡ None = ap (λ l. doc_in l p.spelling (is_empty here)) same ∙ is.doc p.spelling (is_empty here) in
     subst (λ w. IsLine line.Used [] w (one_above k here above) z) (sym (is.here p here)) (IsLine.used refl some none)
 

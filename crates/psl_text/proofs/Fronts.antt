@@ -274,68 +274,72 @@ begins_string z = let found = string_of z in subst (λ w. Begins (34 ∷ w)) fou
     by_stop content meaning rest c (Stops.control {b} {z} low inside) = Begins.broken_string (Breaks.control z c low inside)
     by_stop content meaning rest c (Stops.bad_escape {b} {z} never inside) = Begins.broken_string (Breaks.bad_escape z c never inside)
 
+-- a character that is no sign and no newline
+record IsNoSign (b : ℕ) : Type 0 where
+  not_open_brace : b ≢ 123
+  not_close_brace : b ≢ 125
+  not_open_parenthesis : b ≢ 40
+  not_close_parenthesis : b ≢ 41
+  not_open_bracket : b ≢ 91
+  not_close_bracket : b ≢ 93
+  not_comma : b ≢ 44
+  not_colon : b ≢ 58
+  not_equals : b ≢ 61
+  not_question_mark : b ≢ 63
+  not_dot : b ≢ 46
+  not_at : b ≢ 64
+  not_newline : b ≢ 10
+
+no_sign : (b : ℕ) (k : Kind) → IsNoSign b → IsSign b k → ⊥
+no_sign b k is IsSign.open_brace = is.not_open_brace refl
+no_sign b k is IsSign.close_brace = is.not_close_brace refl
+no_sign b k is IsSign.open_parenthesis = is.not_open_parenthesis refl
+no_sign b k is IsSign.close_parenthesis = is.not_close_parenthesis refl
+no_sign b k is IsSign.open_bracket = is.not_open_bracket refl
+no_sign b k is IsSign.close_bracket = is.not_close_bracket refl
+no_sign b k is IsSign.comma = is.not_comma refl
+no_sign b k is IsSign.colon = is.not_colon refl
+no_sign b k is IsSign.equals = is.not_equals refl
+no_sign b k is IsSign.question_mark = is.not_question_mark refl
+no_sign b k is IsSign.dot = is.not_dot refl
+no_sign b k is IsSign.at = is.not_at refl
+
 no_test : (b n : ℕ) → b ≢ n → (b == n) ≡ false
 no_test b n h = grind (arith, nat_tests)
 
-sign_other : (b : ℕ) → b ≢ 123 → b ≢ 125 → b ≢ 40 → b ≢ 41 → b ≢ 91 → b ≢ 93 → b ≢ 44 → b ≢ 58 → b ≢ 61 → b ≢ 63 → b ≢ 46 → b ≢ 64 → b ≢ 10 → sign b ≡ (kind.BadCharacter, 0)
+sign_other : (b : ℕ) → IsNoSign b → sign b ≡ (kind.BadCharacter, 0)
 unfolding sign
-sign_other b a1 a2 a3 a4 a5 a6 a7 a8 a9 a10 a11 a12 a13 =
-    rw (no_test b 123 a1, no_test b 125 a2, no_test b 40 a3, no_test b 41 a4, no_test b 91 a5, no_test b 93 a6, no_test b 44 a7, no_test b 58 a8, no_test b 61 a9, no_test b 63 a10, no_test b 46 a11, no_test b 64 a12, no_test b 10 a13) refl
+sign_other b is =
+    rw (no_test b 123 is.not_open_brace, no_test b 125 is.not_close_brace, no_test b 40 is.not_open_parenthesis, no_test b 41 is.not_close_parenthesis, no_test b 91 is.not_open_bracket, no_test b 93 is.not_close_bracket, no_test b 44 is.not_comma, no_test b 58 is.not_colon, no_test b 61 is.not_equals, no_test b 63 is.not_question_mark, no_test b 46 is.not_dot, no_test b 64 is.not_at, no_test b 10 is.not_newline) refl
 
--- no sign that the lexer knows
-record IsOther (b : ℕ) : Type 0 where
-  no_sign : (k : Kind) → IsSign b k → ⊥
-  no_newline : b ≢ 10
-  is : sign b ≡ (kind.BadCharacter, 0)
+-- the sign that a character is, a newline or neither
+data IsSignOrNone : ℕ → Type 0 where
+  some : {b : ℕ} {k : Kind} → IsSign b k → IsSignOrNone b
+  newline : IsSignOrNone 10
+  none : {b : ℕ} → IsNoSign b → IsSignOrNone b
 
--- the sign that a character is, or none
-sign_found : (b : ℕ) → ((k : Kind) × IsSign b k) ⊎ ((b ≡ 10) ⊎ IsOther b)
-sign_found b = elim (cases_eq b 123) [
-  | inl e ↦ inl (kind.OpenBrace, subst (λ x. IsSign x kind.OpenBrace) (sym e) IsSign.open_brace)
-  | inr a1 ↦ elim (cases_eq b 125) [
-  | inl e ↦ inl (kind.CloseBrace, subst (λ x. IsSign x kind.CloseBrace) (sym e) IsSign.close_brace)
-  | inr a2 ↦ elim (cases_eq b 40) [
-  | inl e ↦ inl (kind.OpenParen, subst (λ x. IsSign x kind.OpenParen) (sym e) IsSign.open_parenthesis)
-  | inr a3 ↦ elim (cases_eq b 41) [
-  | inl e ↦ inl (kind.CloseParen, subst (λ x. IsSign x kind.CloseParen) (sym e) IsSign.close_parenthesis)
-  | inr a4 ↦ elim (cases_eq b 91) [
-  | inl e ↦ inl (kind.OpenBracket, subst (λ x. IsSign x kind.OpenBracket) (sym e) IsSign.open_bracket)
-  | inr a5 ↦ elim (cases_eq b 93) [
-  | inl e ↦ inl (kind.CloseBracket, subst (λ x. IsSign x kind.CloseBracket) (sym e) IsSign.close_bracket)
-  | inr a6 ↦ elim (cases_eq b 44) [
-  | inl e ↦ inl (kind.Comma, subst (λ x. IsSign x kind.Comma) (sym e) IsSign.comma)
-  | inr a7 ↦ elim (cases_eq b 58) [
-  | inl e ↦ inl (kind.Colon, subst (λ x. IsSign x kind.Colon) (sym e) IsSign.colon)
-  | inr a8 ↦ elim (cases_eq b 61) [
-  | inl e ↦ inl (kind.Equals, subst (λ x. IsSign x kind.Equals) (sym e) IsSign.equals)
-  | inr a9 ↦ elim (cases_eq b 63) [
-  | inl e ↦ inl (kind.Question, subst (λ x. IsSign x kind.Question) (sym e) IsSign.question_mark)
-  | inr a10 ↦ elim (cases_eq b 46) [
-  | inl e ↦ inl (kind.Dot, subst (λ x. IsSign x kind.Dot) (sym e) IsSign.dot)
-  | inr a11 ↦ elim (cases_eq b 64) [
-  | inl e ↦ inl (kind.At, subst (λ x. IsSign x kind.At) (sym e) IsSign.at)
-  | inr a12 ↦ elim (cases_eq b 10) [
-  | inl e ↦ inr (inl e)
-  | inr a13 ↦ inr (inr (record {
-      no_sign = λ k is. none b k a1 a2 a3 a4 a5 a6 a7 a8 a9 a10 a11 a12 is;
-      no_newline = a13;
-      is = sign_other b a1 a2 a3 a4 a5 a6 a7 a8 a9 a10 a11 a12 a13;
-    }))
-  ] ] ] ] ] ] ] ] ] ] ] ] ]
-  where
-    none : (b : ℕ) (k : Kind) → b ≢ 123 → b ≢ 125 → b ≢ 40 → b ≢ 41 → b ≢ 91 → b ≢ 93 → b ≢ 44 → b ≢ 58 → b ≢ 61 → b ≢ 63 → b ≢ 46 → b ≢ 64 → IsSign b k → ⊥
-    none b k a1 a2 a3 a4 a5 a6 a7 a8 a9 a10 a11 a12 IsSign.open_brace = a1 refl
-    none b k a1 a2 a3 a4 a5 a6 a7 a8 a9 a10 a11 a12 IsSign.close_brace = a2 refl
-    none b k a1 a2 a3 a4 a5 a6 a7 a8 a9 a10 a11 a12 IsSign.open_parenthesis = a3 refl
-    none b k a1 a2 a3 a4 a5 a6 a7 a8 a9 a10 a11 a12 IsSign.close_parenthesis = a4 refl
-    none b k a1 a2 a3 a4 a5 a6 a7 a8 a9 a10 a11 a12 IsSign.open_bracket = a5 refl
-    none b k a1 a2 a3 a4 a5 a6 a7 a8 a9 a10 a11 a12 IsSign.close_bracket = a6 refl
-    none b k a1 a2 a3 a4 a5 a6 a7 a8 a9 a10 a11 a12 IsSign.comma = a7 refl
-    none b k a1 a2 a3 a4 a5 a6 a7 a8 a9 a10 a11 a12 IsSign.colon = a8 refl
-    none b k a1 a2 a3 a4 a5 a6 a7 a8 a9 a10 a11 a12 IsSign.equals = a9 refl
-    none b k a1 a2 a3 a4 a5 a6 a7 a8 a9 a10 a11 a12 IsSign.question_mark = a10 refl
-    none b k a1 a2 a3 a4 a5 a6 a7 a8 a9 a10 a11 a12 IsSign.dot = a11 refl
-    none b k a1 a2 a3 a4 a5 a6 a7 a8 a9 a10 a11 a12 IsSign.at = a12 refl
+unless : (b n : ℕ) → IsSignOrNone n → (b ≢ n → IsSignOrNone b) → IsSignOrNone b
+unless b n is otherwise = elim (cases_eq b n) [
+  | inl e ↦ subst IsSignOrNone (sym e) is
+  | inr other ↦ otherwise other
+]
+
+sign_found : (b : ℕ) → IsSignOrNone b
+sign_found b =
+    unless b 123 (IsSignOrNone.some IsSign.open_brace) (λ not_open_brace.
+    unless b 125 (IsSignOrNone.some IsSign.close_brace) (λ not_close_brace.
+    unless b 40 (IsSignOrNone.some IsSign.open_parenthesis) (λ not_open_parenthesis.
+    unless b 41 (IsSignOrNone.some IsSign.close_parenthesis) (λ not_close_parenthesis.
+    unless b 91 (IsSignOrNone.some IsSign.open_bracket) (λ not_open_bracket.
+    unless b 93 (IsSignOrNone.some IsSign.close_bracket) (λ not_close_bracket.
+    unless b 44 (IsSignOrNone.some IsSign.comma) (λ not_comma.
+    unless b 58 (IsSignOrNone.some IsSign.colon) (λ not_colon.
+    unless b 61 (IsSignOrNone.some IsSign.equals) (λ not_equals.
+    unless b 63 (IsSignOrNone.some IsSign.question_mark) (λ not_question_mark.
+    unless b 46 (IsSignOrNone.some IsSign.dot) (λ not_dot.
+    unless b 64 (IsSignOrNone.some IsSign.at) (λ not_at.
+    unless b 10 IsSignOrNone.newline (λ not_newline.
+    IsSignOrNone.none (record { not_open_brace = not_open_brace; not_close_brace = not_close_brace; not_open_parenthesis = not_open_parenthesis; not_close_parenthesis = not_close_parenthesis; not_open_bracket = not_open_bracket; not_close_bracket = not_close_bracket; not_comma = not_comma; not_colon = not_colon; not_equals = not_equals; not_question_mark = not_question_mark; not_dot = not_dot; not_at = not_at; not_newline = not_newline }))))))))))))))
 
 nothing_more : (k : Kind) → goes_on k ≡ (λ b. false) → (z : List ℕ) → EndsBefore k z
 nothing_more k e [] = BeginsWithout.at_end
@@ -379,15 +383,15 @@ front_rest b z is =
     rw (blank, letter, digit, minus, slash, quote, at) refl
 
 begins_sign : (b : ℕ) (z : List ℕ) → IsRest b → Begins (b ∷ z)
-begins_sign b z is = elim (sign_found b) [
-  | inl found ↦ Begins.spelled z (Spells.sign found.1) (sign_alone b found.0 z found.1 is.no_at)
-  | inr rest ↦ elim rest [
-    | inl e ↦ subst (λ x. Begins (x ∷ z)) (sym e) (Begins.spelled z Spells.newline (nothing_more kind.Newline refl z))
-    | inr other ↦ Begins.bad_character (record {
-        no_blank = is.no_blank; no_letter = is.no_letter; no_digit = is.no_digit; no_minus = λ e. absurd (is.no_minus e); no_slash = λ e. absurd (is.no_slash e); no_quote = is.no_quote;
-        no_newline = other.no_newline; no_sign = other.no_sign }) (front_rest b z is ∙ other.is)
-  ]
-]
+begins_sign b z is = by_sign b is (sign_found b)
+  where
+    by_sign : (b : ℕ) → IsRest b → IsSignOrNone b → Begins (b ∷ z)
+    by_sign b is (IsSignOrNone.some {k} found) = Begins.spelled z (Spells.sign found) (sign_alone b k z found is.no_at)
+    by_sign b is IsSignOrNone.newline = Begins.spelled z Spells.newline (nothing_more kind.Newline refl z)
+    by_sign b is (IsSignOrNone.none other) = Begins.bad_character (record {
+      no_blank = is.no_blank; no_letter = is.no_letter; no_digit = is.no_digit; no_minus = λ e. absurd (is.no_minus e); no_slash = λ e. absurd (is.no_slash e); no_quote = is.no_quote;
+      no_newline = other.not_newline; no_sign = λ k found. no_sign b k other found
+    }) (front_rest b z is ∙ sign_other b other)
 
 begins : (b : ℕ) (z : List ℕ) → Begins (b ∷ z)
 begins b z = elim (cases_bool (is_blank b)) [

@@ -2,6 +2,7 @@
 use Rattle.std.proofs.Common.{◌≡◌, ◌≢◌, ℕ, zero, suc, ◌+◌, ◌-◌, ◌<◌, ◌≤◌, ◌==◌, Bool, true, false, cond, List, [], ◌∷◌, ◌++◌, length, take, drop, inl, inr, refl, sym, ap, subst, ◌∙◌, ◌⊎◌, arith, append_assoc}
 use Rattle.std.proofs.lemmas.Bool.Decides.{nat_tests}
 use Rattle.std.proofs.lemmas.List.{length-append, take_at}
+use Rattle.std.specs.Prelude.{nat_lt}
 use Rattle.std.specs.Char.{is_ascii_alphabetic}
 use Rattle.psl_text.specs.declared.token.Kind.{Kind}
 use Rattle.psl_text.specs.declared.token.Kind.TheVariants as kind
@@ -31,7 +32,7 @@ unfolding quoted
 quoted_plain b at z high no_quote no_slash =
     let first : (b == 34) ≡ false = grind (arith, nat_tests) in
     let second : (b == 92) ≡ false = grind (arith, nat_tests) in
-    let third : Rattle.std.specs.Prelude.nat_lt b 32 ≡ false = grind (arith, nat_tests) in
+    let third : nat_lt b 32 ≡ false = grind (arith, nat_tests) in
     rw (first, second, third) refl
 
 quoted_escape : (b c at : ℕ) (z : List ℕ) → IsEscape b c → quoted true at (b ∷ z) ≡ quoted false (at + 1) z
