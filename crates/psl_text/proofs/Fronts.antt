@@ -1,12 +1,12 @@
 -- At the front of a text stands a piece, or nothing that is spelled.
-use Rattle.std.proofs.Common.{◌≡◌, ◌≢◌, ℕ, zero, suc, ◌+◌, ◌<◌, ◌≤◌, ◌==◌, Bool, true, false, cond, List, [], ◌∷◌, ◌++◌, length, get_or, inl, inr, refl, sym, ap, subst, ◌∙◌, ◌⊎◌, arith, append_assoc}
+use Rattle.std.proofs.Common.{◌≡◌, ◌≢◌, ℕ, ◌+◌, ◌<◌, ◌≤◌, ◌==◌, Bool, true, false, List, [], ◌∷◌, ◌++◌, length, inl, inr, refl, sym, ap, subst, ◌∙◌, ◌⊎◌, arith, append_assoc}
 use Rattle.std.proofs.lemmas.Bool.{cases_eq, cases_lt}
 use Rattle.std.proofs.lemmas.Bool.Decides.{nat_tests}
 use Rattle.std.specs.Prelude.{nat_lt}
 use Rattle.std.specs.Char.{is_ascii_alphabetic}
 use Rattle.psl_text.specs.declared.token.Kind.{Kind}
 use Rattle.psl_text.specs.declared.token.Kind.TheVariants as kind
-use Rattle.psl_text.specs.Scan.{is_blank, is_word, is_digit, is_in_line, is_escape, broken, quoted, sign, front, is_fault}
+use Rattle.psl_text.specs.Scan.{is_blank, is_word, is_digit, is_in_line, is_escape, quoted, sign, front, is_fault}
 use Rattle.psl_text.specs.Spelling.{Every, IsEscape, IsContent, IsSign, Spells, goes_on, BeginsWithout, EndsBefore, Breaks}
 use Rattle.psl_text.proofs.Runs.{in_line_not}
 use Rattle.psl_text.proofs.Spelled.{quoted_content, quoted_backslash, front_quote}
@@ -267,6 +267,7 @@ begins_string z = let found = string_of z in subst (λ w. Begins (34 ∷ w)) fou
     nothing_goes_on : (z : List ℕ) → BeginsWithout (λ b. false) z
     nothing_goes_on [] = BeginsWithout.at_end
     nothing_goes_on (b ∷ z) = BeginsWithout.other refl
+
     by_stop : (content meaning rest : List ℕ) → IsContent content meaning → Stops rest → Begins (34 ∷ content ++ rest)
     by_stop content meaning rest c (Stops.closes {z}) = subst (λ w. Begins (34 ∷ w)) (append_assoc content (34 ∷ []) z) (Begins.spelled z (Spells.string c) (nothing_goes_on z))
     by_stop content meaning rest c (Stops.line_end w) = Begins.broken_string (Breaks.unclosed c w)
@@ -389,27 +390,39 @@ begins_sign b z is = by_sign b is (sign_found b)
     by_sign b is (IsSignOrNone.some {k} found) = Begins.spelled z (Spells.sign found) (sign_alone b k z found is.no_at)
     by_sign b is IsSignOrNone.newline = Begins.spelled z Spells.newline (nothing_more kind.Newline refl z)
     by_sign b is (IsSignOrNone.none other) = Begins.bad_character (record {
-      no_blank = is.no_blank; no_letter = is.no_letter; no_digit = is.no_digit; no_minus = λ e. absurd (is.no_minus e); no_slash = λ e. absurd (is.no_slash e); no_quote = is.no_quote;
-      no_newline = other.not_newline; no_sign = λ k found. no_sign b k other found
+      no_blank = is.no_blank;
+      no_letter = is.no_letter;
+      no_digit = is.no_digit;
+      no_minus = λ e. absurd (is.no_minus e);
+      no_slash = λ e. absurd (is.no_slash e);
+      no_quote = is.no_quote;
+      no_newline = other.not_newline;
+      no_sign = λ k found. no_sign b k other found;
     }) (front_rest b z is ∙ sign_other b other)
 
 begins : (b : ℕ) (z : List ℕ) → Begins (b ∷ z)
 begins b z = elim (cases_bool (is_blank b)) [
   | inl e ↦ begins_blank b z e
   | inr no_blank ↦ elim (cases_bool (is_ascii_alphabetic b)) [
-  | inl e ↦ begins_name b z e
-  | inr no_letter ↦ elim (cases_bool (is_digit b)) [
-  | inl e ↦ begins_number b z e
-  | inr no_digit ↦ elim (cases_eq b 45) [
-  | inl e ↦ subst (λ x. Begins (x ∷ z)) (sym e) (begins_minus z)
-  | inr no_minus ↦ elim (cases_eq b 47) [
-  | inl e ↦ subst (λ x. Begins (x ∷ z)) (sym e) (begins_slash z)
-  | inr no_slash ↦ elim (cases_eq b 34) [
-  | inl e ↦ subst (λ x. Begins (x ∷ z)) (sym e) (begins_string z)
-  | inr no_quote ↦ elim (cases_eq b 64) [
-  | inl e ↦ subst (λ x. Begins (x ∷ z)) (sym e) (begins_at z)
-  | inr no_at ↦ begins_sign b z (record { no_blank = no_blank; no_letter = no_letter; no_digit = no_digit; no_minus = no_minus; no_slash = no_slash; no_quote = no_quote; no_at = no_at })
-  ] ] ] ] ] ] ]
+    | inl e ↦ begins_name b z e
+    | inr no_letter ↦ elim (cases_bool (is_digit b)) [
+      | inl e ↦ begins_number b z e
+      | inr no_digit ↦ elim (cases_eq b 45) [
+        | inl e ↦ subst (λ x. Begins (x ∷ z)) (sym e) (begins_minus z)
+        | inr no_minus ↦ elim (cases_eq b 47) [
+          | inl e ↦ subst (λ x. Begins (x ∷ z)) (sym e) (begins_slash z)
+          | inr no_slash ↦ elim (cases_eq b 34) [
+            | inl e ↦ subst (λ x. Begins (x ∷ z)) (sym e) (begins_string z)
+            | inr no_quote ↦ elim (cases_eq b 64) [
+              | inl e ↦ subst (λ x. Begins (x ∷ z)) (sym e) (begins_at z)
+              | inr no_at ↦ begins_sign b z (record { no_blank = no_blank; no_letter = no_letter; no_digit = no_digit; no_minus = no_minus; no_slash = no_slash; no_quote = no_quote; no_at = no_at })
+            ]
+          ]
+        ]
+      ]
+    ]
+  ]
+]
 
 -- a piece stands at the front, or nothing that is spelled
 pub data HasFront : List ℕ → Type 0 where

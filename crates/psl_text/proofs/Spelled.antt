@@ -1,14 +1,14 @@
 -- What is spelled at the front of a text is what the lexer finds there.
-use Rattle.std.proofs.Common.{◌≡◌, ◌≢◌, ℕ, zero, suc, ◌+◌, ◌-◌, ◌<◌, ◌≤◌, ◌==◌, Bool, true, false, cond, List, [], ◌∷◌, ◌++◌, length, take, drop, inl, inr, refl, sym, ap, subst, ◌∙◌, ◌⊎◌, arith, append_assoc}
+use Rattle.std.proofs.Common.{◌≡◌, ◌≢◌, ℕ, ◌+◌, ◌-◌, ◌<◌, ◌≤◌, ◌==◌, Bool, true, false, cond, List, [], ◌∷◌, ◌++◌, length, take, refl, ap, ◌∙◌, arith, append_assoc}
 use Rattle.std.proofs.lemmas.Bool.Decides.{nat_tests}
 use Rattle.std.proofs.lemmas.List.{length-append, take_at}
 use Rattle.std.specs.Prelude.{nat_lt}
 use Rattle.std.specs.Char.{is_ascii_alphabetic}
 use Rattle.psl_text.specs.declared.token.Kind.{Kind}
 use Rattle.psl_text.specs.declared.token.Kind.TheVariants as kind
-use Rattle.psl_text.specs.Scan.{is_blank, is_word, is_digit, is_in_line, run, broken, quoted, sign, front, is_fault}
-use Rattle.psl_text.specs.Lex.{escaped, unescaped, text_of}
-use Rattle.psl_text.specs.Spelling.{Every, IsEscape, IsContent, IsSign, Spells, goes_on, BeginsWithout, EndsBefore, Breaks}
+use Rattle.psl_text.specs.Scan.{is_blank, is_word, is_digit, is_in_line, run, quoted, sign, front, is_fault}
+use Rattle.psl_text.specs.Lex.{unescaped, text_of}
+use Rattle.psl_text.specs.Spelling.{Every, IsEscape, IsContent, IsSign, Spells, BeginsWithout, EndsBefore}
 
 -- ---- runs
 

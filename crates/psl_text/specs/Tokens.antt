@@ -1,6 +1,6 @@
 -- The tokens of a text. The text is cut into pieces, each as long as can be; which token a piece is depends on the
 -- pieces before it. Those are always given as one meets them going back, the nearest first.
-use Rattle.std.specs.Prelude.{◌≡◌, ℕ, zero, suc, ◌+◌, Bool, true, false, ◌&&◌, if◌then◌else◌, List, [], ◌∷◌, ◌++◌, length, Option, Some, None}
+use Rattle.std.specs.Prelude.{ℕ, zero, suc, ◌+◌, Bool, true, false, ◌&&◌, if◌then◌else◌, List, [], ◌∷◌, ◌++◌, length, Option, Some, None}
 use Rattle.psl_text.specs.declared.token.Kind.{Kind}
 use Rattle.psl_text.specs.declared.token.Kind.TheVariants as kind
 use Rattle.psl_text.specs.declared.token.Token.{Token}
@@ -27,8 +27,8 @@ place (p ∷ before) = place before + length p.spelling
 
 -- ---- brackets
 
--- Going back over a piece, with so many closing brackets whose opening ones are still further back: an opening bracket
--- belongs to the nearest of them, or else it is open. The form of a closing bracket doesn't matter.
+-- Going back over a piece, when so many closing brackets were met whose opening ones are still to come: an opening bracket
+-- belongs to the last of them, or else it is open. A closing bracket closes the nearest open one, whatever its form.
 abbrev pub back_over : Kind → ℕ → (ℕ → Option Bracket) → ℕ → Option Bracket
 back_over kind.OpenBrace at further zero = Some (record { is_brace = true; at = at })
 back_over kind.OpenParen at further zero = Some (record { is_brace = false; at = at })
@@ -41,7 +41,7 @@ back_over kind.CloseParen at further closing = further (suc closing)
 back_over kind.CloseBracket at further closing = further (suc closing)
 back_over _ at further closing = further closing
 
--- the first open bracket that one meets going back, behind so many closing ones
+-- the first open bracket that one meets going back, when so many closing ones were met
 unfoldable pub open_before : List Piece → ℕ → Option Bracket
 open_before [] = λ closing. None
 open_before (p ∷ before) = back_over p.kind (place before) (open_before before)
@@ -104,7 +104,7 @@ unfoldable pub docs_on : List (List Piece) → List (List ℕ)
 docs_on [] = []
 docs_on (line ∷ lines) = below (doc_on line) (docs_on lines)
 
--- the documentation directly above what stands first on its line; anything else has none
+-- the documentation directly above what stands first on its line; what stands behind something else has none
 abbrev pub docs_before : List Piece → List (List ℕ)
 docs_before before = if is_empty (line_of before) then docs_on (lines_above before) else []
 
@@ -126,7 +126,7 @@ token_by kind.Comment before p = []
 token_by kind.Newline before p = newline_in (innermost_open before) (place before)
 token_by k before p = record { kind = k; at = place before; text = p.text; docs = docs_before before } ∷ []
 
--- the tokens that some pieces are, behind others, and then the last token, which what stands before it says
+-- the tokens that some pieces are, behind others; then the last token, which depends on all that stands before it
 unfoldable pub tokens_among : (List Piece → Token) → List Piece → List Piece → List Token
 tokens_among last before [] = last before ∷ []
 tokens_among last before (p ∷ ps) = token_by p.kind before p ++ tokens_among last (p ∷ before) ps
