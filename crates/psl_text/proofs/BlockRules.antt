@@ -21,6 +21,7 @@ use Rattle.psl_text.proofs.TermRules.{name_inside, name_self}
 use Rattle.psl_text.proofs.AttributeRules.{finish}
 use Rattle.psl_text.proofs.EntryRules.{newline_inside, newline_self, entries_ok, entries_is, entries_shrink}
 use Rattle.psl_text.proofs.Whole.{tree_of_text}
+use Rattle.psl_text.proofs.Cutting.{tokens_are, tokens_only}
 
 open_inside : IsInside kind.OpenBrace
 unfolding same_kind
@@ -152,7 +153,8 @@ blocks_is ts xs rest d = blocks_from_is (length ts) [] ts xs rest d (omega arith
 -- what has a tree is read as that tree
 pub tree_is_read : (text : List ℕ) (tree : Tree) → HasTree text tree → tree_of text ≡ Ok tree
 tree_is_read text tree h =
-    tree_of_text text h.is.short h.is.utf8 ∙ ap (with_length (length text)) (blocks_is (tokens_of text) tree.blocks h.derived.0 h.derived.1)
+    let tokens = tokens_only text h.derived.0 h.derived.2 in
+    tree_of_text text h.is.short h.is.utf8 ∙ ap (λ ts. with_length (length text) (blocks ts)) (sym tokens) ∙ ap (with_length (length text)) (blocks_is h.derived.0 tree.blocks h.derived.1 h.derived.3)
     ∙ ap (λ n. Ok (record { blocks = tree.blocks; length = n })) (sym h.size)
 
 abbrev kept : Tree → Result Tree TextFault
@@ -171,7 +173,7 @@ with_length_ok (Err f) n tree e = absurd (cc)
 tree_is_derived : (text : List ℕ) (tree : Tree) → IsText text → tree_of text ≡ Ok tree → HasTree text tree
 tree_is_derived text tree is e =
     let parts = with_length_ok (blocks (tokens_of text)) (length text) tree (sym (tree_of_text text is.short is.utf8) ∙ e) in
-    record { is = is; size = sym parts.2; derived = (parts.0, blocks_ok (tokens_of text) tree.blocks parts.0 parts.1) }
+    record { is = is; size = sym parts.2; derived = (tokens_of text, parts.0, tokens_are text, blocks_ok (tokens_of text) tree.blocks parts.0 parts.1) }
 
 pub found_tree : (text : List ℕ) (answer : Result Tree TextFault) → Answers (tree_of text) answer → OnOk answer (IsText text) → IfOk answer (HasTree text)
 found_tree text (Ok tree) e is = tree_is_derived text tree is e

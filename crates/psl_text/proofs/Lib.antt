@@ -9,6 +9,9 @@ pub mod Turns
 pub mod Whole
 pub mod Steps
 pub mod Separate
+pub mod Spelled
+pub mod Fronts
+pub mod Cutting
 pub mod TermRules
 pub mod LevelRules
 pub mod AttributeRules

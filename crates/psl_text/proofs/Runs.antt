@@ -34,7 +34,7 @@ pub line_moves : (z : List ℕ) → get_or z 0 0 ≡ 47 → 1 ≤ run is_in_line
 line_moves [] h = omega arith
 line_moves (b ∷ z) h = rw h (omega arith)
 
-in_line_not : (b : ℕ) → is_in_line b ≡ false → b ≡ 10
+pub in_line_not : (b : ℕ) → is_in_line b ≡ false → b ≡ 10
 in_line_not b h = grind (arith, nat_tests)
 
 pub line_stops : (z : List ℕ) → run is_in_line z < length z → get_or z (run is_in_line z) 0 ≡ 10

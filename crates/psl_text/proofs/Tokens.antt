@@ -17,7 +17,7 @@ drop_cons : (n b : ℕ) (z : List ℕ) → 1 ≤ n → drop (n - 1) z ≡ drop n
 drop_cons zero b z h = absurd (omega arith)
 drop_cons (suc n) b z h = let e : suc n - 1 ≡ n = omega arith in ap (λ k. drop k z) e
 
-one_step : (z : List ℕ) (c : Cursor) → 0 < length z → 1 ≤ (front z).1 → tokens_from 0 c z ≡ before (token_at z c) (tokens_from 0 (cursor_at z c) (drop (front z).1 z))
+pub one_step : (z : List ℕ) (c : Cursor) → 0 < length z → 1 ≤ (front z).1 → tokens_from 0 c z ≡ before (token_at z c) (tokens_from 0 (cursor_at z c) (drop (front z).1 z))
 unfolding tokens_from
 one_step [] c some moves = absurd (omega arith)
 one_step (b ∷ z) c some moves = ap (before (token_at (b ∷ z) c)) (passed ((front (b ∷ z)).1 - 1) (cursor_at (b ∷ z) c) z ∙ ap (tokens_from 0 (cursor_at (b ∷ z) c)) (drop_cons (front (b ∷ z)).1 b z moves))
@@ -43,7 +43,7 @@ more_some text xs whole token old new h below moves e t other =
     moved text old new below moves e ∙ ap (λ o. before o (tokens_from 0 new (drop new.at text))) (sym t) ∙ ap (λ b. cond b (token ∷ []) (token ∷ tokens_from 0 new (drop new.at text))) other in
     append_assoc xs (token ∷ []) (tokens_from 0 new (drop new.at text)) ∙ ap (λ r. xs ++ r) (sym now) ∙ h
 
-last_of : (z : List ℕ) (c : Cursor) (token : Token) → 0 < length z → Some token ≡ token_at z c → is_fault token.kind ≡ true → tokens_from 0 c z ≡ token ∷ []
+pub last_of : (z : List ℕ) (c : Cursor) (token : Token) → 0 < length z → Some token ≡ token_at z c → is_fault token.kind ≡ true → tokens_from 0 c z ≡ token ∷ []
 unfolding tokens_from
 last_of [] c token some t fault = absurd (omega arith)
 last_of (b ∷ z) c token some t fault =

@@ -17,7 +17,7 @@ use Rattle.psl_text.specs.declared.tree.Word.{Word}
 use Rattle.psl_text.specs.declared.tree.Word.TheVariants as word
 use Rattle.psl_text.specs.declared.tree.Block.{Block}
 use Rattle.psl_text.specs.declared.tree.Tree.{Tree}
-use Rattle.psl_text.specs.Lex.{tokens_of}
+use Rattle.psl_text.specs.Tokens.{HasTokens}
 use Rattle.psl_text.specs.Parser.{kind_of, docs_of}
 use Rattle.psl_text.specs.Grammar.{max_depth, max_length, word_named}
 
@@ -126,4 +126,4 @@ pub record IsText (text : List ℕ) : Type 0 where
 pub record HasTree (text : List ℕ) (tree : Tree) : Type 0 where
   pub is : IsText text
   pub size : tree.length ≡ length text
-  pub derived : (rest : List Token) × AreBlocks (tokens_of text) tree.blocks rest
+  pub derived : (tokens : List Token) × (rest : List Token) × HasTokens text tokens × AreBlocks tokens tree.blocks rest

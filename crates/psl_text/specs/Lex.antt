@@ -1,5 +1,5 @@
 -- The tokens of a text.
-use Rattle.std.specs.Prelude.{◌≡◌, ◌<◌, ◌≤◌, ℕ, zero, suc, ◌+◌, ◌-◌, Bool, true, false, not, if◌then◌else◌, ◌==◌, List, [], ◌∷◌, ◌++◌, length, take, drop, slice_index, slice_get, Option, Some, None}
+use Rattle.std.specs.Prelude.{◌≡◌, ◌<◌, ◌≤◌, ℕ, zero, suc, ◌+◌, ◌-◌, Bool, true, false, not, if◌then◌else◌, ◌==◌, List, [], ◌∷◌, ◌++◌, length, take, drop, slice_get, Option, Some, None}
 use Rattle.psl_text.specs.declared.token.Kind.{Kind}
 use Rattle.psl_text.specs.declared.token.Kind.TheVariants as kind
 use Rattle.psl_text.specs.declared.token.Token.{Token}
@@ -7,7 +7,9 @@ use Rattle.psl_text.specs.declared.lexer.Bracket.{Bracket}
 use Rattle.psl_text.specs.declared.lexer.Line.{Line}
 use Rattle.psl_text.specs.declared.lexer.Line.TheVariants as line
 use Rattle.psl_text.specs.declared.lexer.Cursor.{Cursor}
-use Rattle.psl_text.specs.Scan.{is_blank, last_run, front, is_fault}
+use Rattle.psl_text.specs.Scan.{front, is_fault}
+pub use Rattle.psl_text.specs.Spelling.{is_doc_comment, doc_of}
+pub use Rattle.psl_text.specs.Tokens.{mark}
 
 -- ---- brackets: those that are open, the innermost last
 
@@ -45,14 +47,6 @@ unescaped false (b ∷ z) = if b == 92 then unescaped true z else b ∷ unescape
 
 -- ---- documentation
 
--- a comment that begins with three slashes
-abbrev pub is_doc_comment : List ℕ → Bool
-is_doc_comment z = slice_index z 2 == 47
-
--- what stands behind the three slashes, without white space at its end
-abbrev pub doc_of : List ℕ → List ℕ
-doc_of comment = take (length (drop 3 comment) - last_run is_blank (drop 3 comment)) (drop 3 comment)
-
 -- A comment is documentation where its line has nothing before it.
 abbrev pub is_doc : Line → List ℕ → Bool
 is_doc line.Fresh comment = is_doc_comment comment
@@ -70,9 +64,6 @@ behind_comment n comment c =
     if is_doc c.line comment then record c { at = c.at + n; docs = c.docs ++ doc_of comment ∷ []; line = line.Doc } else record c { at = c.at + n; line = line.Used }
 
 -- ---- one token
-
-abbrev pub mark : Kind → ℕ → Token
-mark kind at = record { kind = kind; at = at; text = []; docs = [] }
 
 abbrev pub text_of : Kind → List ℕ → List ℕ
 text_of kind.Name spelling = spelling

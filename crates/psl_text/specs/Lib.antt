@@ -4,3 +4,5 @@ pub mod Grammar
 pub mod Lex
 pub mod Parser
 pub mod Scan
+pub mod Spelling
+pub mod Tokens

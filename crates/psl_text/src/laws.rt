@@ -1,7 +1,15 @@
 //! What holds of the grammar.
 ghost use Rattle.std.specs.Prelude.{◌≡◌, ℕ, List};
+ghost use Rattle.psl_text.specs.declared.token.Token.{Token};
 ghost use Rattle.psl_text.specs.declared.tree.Tree.{Tree};
+ghost use Rattle.psl_text.specs.Tokens.{HasTokens};
 ghost use Rattle.psl_text.specs.Derives.{HasTree};
+
+/// Every text has tokens, and no two lists of them.
+pub fn one_list_of_tokens()
+    ensures some { (text : List ℕ) → (tokens : List Token) × HasTokens text tokens }
+    ensures only { (text : List ℕ) (a b : List Token) → HasTokens text a → HasTokens text b → a ≡ b }
+{}
 
 /// A text has at most one tree.
 pub fn one_tree()
