@@ -153,7 +153,8 @@ block_attribute_shrinks = attribute_shrinks name (Spelled kind.Name) plain_ok pl
 attributes_from_ok : (n : ℕ) (found : List Attribute) (ts : List Token) (xs : List Attribute) (rest : List Token) → attributes_from n found ts ≡ Ok (xs, rest)
     → (ys : List Attribute) × (xs ≡ found ++ ys) × AreAttributes ts ys rest
 unfolding attributes_from
-attributes_from_ok zero found ts xs rest e = absurd (cc)
+attributes_from_ok zero found ts xs rest e =
+    ([], sym (ok_value found xs ts rest e) ∙ sym (append-nil found), subst (λ zs. AreAttributes ts [] zs) (ok_rest found xs ts rest e) AreAttributes.none)
 attributes_from_ok (suc n) found ts xs rest e =
     elim (when_ok kind.At ts (attribute >>= λ a. attributes_from n (found ++ a ∷ [])) (pure found) xs rest at_inside e) [
       | inl at ↦

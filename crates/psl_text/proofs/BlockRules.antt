@@ -183,14 +183,3 @@ only_tree text answer e tree h = subst (λ r. Answers r answer) (tree_is_read te
 -- a text has at most one tree
 pub one_tree_only : (text : List ℕ) (a b : Tree) → HasTree text a → HasTree text b → a ≡ b
 one_tree_only text a b h k = trees_same a b (sym (tree_is_read text a h) ∙ tree_is_read text b k)
-
--- ---- faults
-
-pub found_fault : (text : List ℕ) (answer : Result Tree TextFault) → Answers (tree_of text) answer → IfErr answer (λ e. e ≢ fault.Memory → HasFault text e)
-unfolding HasFault
-found_fault text (Ok tree) e = tt
-found_fault text (Err f) e = e
-
-pub only_fault : (text : List ℕ) (answer : Result Tree TextFault) → Answers (tree_of text) answer → (f : TextFault) → HasFault text f → Answers (Err f) answer
-unfolding HasFault
-only_fault text answer e f h = subst (λ r. Answers r answer) h e

@@ -14,3 +14,7 @@ pub mod LevelRules
 pub mod AttributeRules
 pub mod EntryRules
 pub mod BlockRules
+pub mod FaultSteps
+pub mod FaultSeparate
+pub mod FaultTerms
+pub mod FaultLevels

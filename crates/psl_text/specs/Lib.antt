@@ -4,3 +4,4 @@ pub mod Grammar
 pub mod Lex
 pub mod Parser
 pub mod Scan
+pub mod Stops

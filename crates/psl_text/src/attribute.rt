@@ -81,5 +81,5 @@ pub fn attributes(parser: &mut Parser<'_>) -> Result<Items<Attribute>, TextFault
         }
         found.push(attribute(parser)?)?;
     }
-    Err(parser.refuse())
+    Ok(found)
 }
