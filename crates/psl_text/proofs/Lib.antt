@@ -18,3 +18,6 @@ pub mod FaultSteps
 pub mod FaultSeparate
 pub mod FaultTerms
 pub mod FaultLevels
+pub mod FaultAttributes
+pub mod FaultFields
+pub mod FaultEntries
