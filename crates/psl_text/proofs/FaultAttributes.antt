@@ -43,15 +43,15 @@ unfolding attribute_name
 attribute_name_found ts e h = elim (bind_err (name ts) behind_name e h) [
   | inl bad ↦ let found = spelled_err kind.Name ts e bad in (found.0, AttributeNameStops.name found.1, found.2)
   | inr first ↦ elim (when_split kind.Dot first.1 (dotted first.0) (pure first.0) (Err e) dot_inside first.3) [
-      | inl dots ↦ elim (bind_err (name dots.0) (λ m. pure (record { text = first.0.text ++ 46 ∷ m.text; at = first.0.at })) e dots.2) [
-          | inl bad ↦
-              let found = spelled_err kind.Name dots.0 e bad in
-              (found.0, AttributeNameStops.dotted (spelled_sees kind.Name ts first.0 first.1 (spelled_ok kind.Name ts first.1 first.0 name_inside first.2)) dots.1 found.1, found.2)
-          | inr second ↦
-              absurd (ok_not_err (pure (record { text = first.0.text ++ 46 ∷ second.0.text; at = first.0.at }) second.1) (record { text = first.0.text ++ 46 ∷ second.0.text; at = first.0.at }) second.1 e refl second.3)
-        ]
-      | inr other ↦ absurd (ok_not_err (pure first.0 first.1) first.0 first.1 e refl other.1)
+    | inl dots ↦ elim (bind_err (name dots.0) (λ m. pure (record { text = first.0.text ++ 46 ∷ m.text; at = first.0.at })) e dots.2) [
+      | inl bad ↦
+          let found = spelled_err kind.Name dots.0 e bad in
+          (found.0, AttributeNameStops.dotted (spelled_sees kind.Name ts first.0 first.1 (spelled_ok kind.Name ts first.1 first.0 name_inside first.2)) dots.1 found.1, found.2)
+      | inr second ↦
+          absurd (ok_not_err (pure (record { text = first.0.text ++ 46 ∷ second.0.text; at = first.0.at }) second.1) (record { text = first.0.text ++ 46 ∷ second.0.text; at = first.0.at }) second.1 e refl second.3)
     ]
+    | inr other ↦ absurd (ok_not_err (pure first.0 first.1) first.0 first.1 e refl other.1)
+  ]
 ]
 
 dot_goes_on : (ts us vs : List Token) (n : Name) → Spelled kind.Name ts n us → Sign kind.Dot us vs → attribute_name ts ≡ dotted n vs
@@ -69,14 +69,14 @@ attribute_name_reaches : Reaches attribute_name Apart IsAttributeName
 attribute_name_reaches ts n rest (IsAttributeName.plain s) = elim (next_is kind.Dot rest dot_inside) [
   | inr none ↦ inl (attribute_name_is ts n rest (IsAttributeName.plain s) none)
   | inl dots ↦ inr (record {
-      left = dot_apart rest dots.0 dots.1;
-      shorter = λ x us h.
-          let step = bind_ok (name dots.0) (λ m. pure (record { text = n.text ++ 46 ∷ m.text; at = n.at })) x us (sym (dot_goes_on ts rest dots.0 n s dots.1) ∙ h) in
-          let same : step.1 ≡ us = ok_rest (record { text = n.text ++ 46 ∷ step.0.text; at = n.at }) x step.1 us step.3 in
-          let second = sign_shrinks kind.Name dots.0 step.1 (spelled_sees kind.Name dots.0 step.0 step.1 (spelled_ok kind.Name dots.0 step.1 step.0 name_inside step.2)) in
-          let below : length step.1 < length rest = omega (arith, second, sign_shrinks kind.Dot rest dots.0 dots.1) in
-          subst (λ zs. length zs < length rest) same below;
-    })
+    left = dot_apart rest dots.0 dots.1;
+    shorter = λ x us h.
+        let step = bind_ok (name dots.0) (λ m. pure (record { text = n.text ++ 46 ∷ m.text; at = n.at })) x us (sym (dot_goes_on ts rest dots.0 n s dots.1) ∙ h) in
+        let same : step.1 ≡ us = ok_rest (record { text = n.text ++ 46 ∷ step.0.text; at = n.at }) x step.1 us step.3 in
+        let second = sign_shrinks kind.Name dots.0 step.1 (spelled_sees kind.Name dots.0 step.0 step.1 (spelled_ok kind.Name dots.0 step.1 step.0 name_inside step.2)) in
+        let below : length step.1 < length rest = omega (arith, second, sign_shrinks kind.Dot rest dots.0 dots.1) in
+        subst (λ zs. length zs < length rest) same below;
+  })
 ]
 attribute_name_reaches ts n rest (IsAttributeName.dotted {us} {vs} {n = first} {m} s d t) =
     inl (dot_goes_on ts us vs first s d ∙ bind_goes (name vs) (λ second. pure (record { text = first.text ++ 46 ∷ second.text; at = first.at })) m rest (spelled_is kind.Name vs rest m name_self t))
@@ -111,11 +111,11 @@ unfolding arguments_if_any same_kind
 if_any_reaches ts xs rest MayHaveArguments.none = elim (next_is kind.OpenParen ts paren_inside) [
   | inr none ↦ inl (when_no kind.OpenParen ts (arguments whole_term) (pure []) none)
   | inl opens ↦ inr (record {
-      left = sign_other kind.OpenParen kind.At ts opens.0 refl opens.1;
-      shorter = λ ys us h.
-          let given = arguments_ok whole_term (IsTerm max_depth) (term_value max_depth) opens.0 ys us (sym (paren_opens ts opens.0 opens.1) ∙ h) in
-          omega (arith, sign_shrinks kind.OpenParen ts opens.0 opens.1, separated_shrinks (IsArgument (IsTerm max_depth)) kind.CloseParen (argument_shrinks whole_term (IsTerm max_depth) (term_value max_depth)) opens.0 ys us given);
-    })
+    left = sign_other kind.OpenParen kind.At ts opens.0 refl opens.1;
+    shorter = λ ys us h.
+        let given = arguments_ok whole_term (IsTerm max_depth) (term_value max_depth) opens.0 ys us (sym (paren_opens ts opens.0 opens.1) ∙ h) in
+        omega (arith, sign_shrinks kind.OpenParen ts opens.0 opens.1, separated_shrinks (IsArgument (IsTerm max_depth)) kind.CloseParen (argument_shrinks whole_term (IsTerm max_depth) (term_value max_depth)) opens.0 ys us given);
+  })
 ]
 if_any_reaches ts xs rest (MayHaveArguments.some {us} p d) = inl (paren_opens ts us p ∙ arguments_is whole_term (IsTerm max_depth) (term_value max_depth) us xs rest d)
 
@@ -137,9 +137,9 @@ module _ (called : Parser Name) (Called : List Token → Name → List Token →
   attribute_found ts e h = elim (bind_err (called ts) behind_called e h) [
     | inl bad ↦ let found = called_refuses.found ts e bad in (found.0, AttributeStops.name found.1, found.2)
     | inr first ↦ elim (bind_err (arguments_if_any first.1) (λ given. pure (record { name = first.0; arguments = given })) e first.3) [
-        | inl bad ↦ let found = if_any_found first.1 e bad in (found.2.0, AttributeStops.arguments (called_ok ts first.0 first.1 first.2) found.1 found.2.1, found.2.2)
-        | inr second ↦ absurd (ok_not_err (pure (record { name = first.0; arguments = second.0 }) second.1) (record { name = first.0; arguments = second.0 }) second.1 e refl second.3)
-      ]
+      | inl bad ↦ let found = if_any_found first.1 e bad in (found.2.0, AttributeStops.arguments (called_ok ts first.0 first.1 first.2) found.1 found.2.1, found.2.2)
+      | inr second ↦ absurd (ok_not_err (pure (record { name = first.0; arguments = second.0 }) second.1) (record { name = first.0; arguments = second.0 }) second.1 e refl second.3)
+    ]
   ]
 
   -- a name before an opening parenthesis
@@ -161,15 +161,15 @@ module _ (called : Parser Name) (Called : List Token → Name → List Token →
   pub attribute_reaches : Reaches attribute_by (λ ts. sees kind.At ts ≡ false) (IsAttribute Called)
   attribute_reaches ts a rest (IsAttribute.attribute {us} {n} {given} c g) = elim (called_reaches ts n us c) [
     | inl e ↦ elim (if_any_reaches us given rest g) [
-        | inl k ↦ inl (bind_goes (called ts) behind_called n us e ∙ bind_goes (arguments_if_any us) (λ xs. pure (record { name = n; arguments = xs })) given rest k)
-        | inr f ↦ inr (record {
-            left = f.left;
-            shorter = λ x zs h.
-                let step = bind_ok (arguments_if_any us) (λ xs. pure (record { name = n; arguments = xs })) x zs (sym (bind_goes (called ts) behind_called n us e) ∙ h) in
-                let same : step.1 ≡ zs = ok_rest (record { name = n; arguments = step.0 }) x step.1 zs step.3 in
-                subst (λ ws. length ws < length rest) same (f.shorter step.0 step.1 step.2);
-          })
-      ]
+      | inl k ↦ inl (bind_goes (called ts) behind_called n us e ∙ bind_goes (arguments_if_any us) (λ xs. pure (record { name = n; arguments = xs })) given rest k)
+      | inr f ↦ inr (record {
+        left = f.left;
+        shorter = λ x zs h.
+            let step = bind_ok (arguments_if_any us) (λ xs. pure (record { name = n; arguments = xs })) x zs (sym (bind_goes (called ts) behind_called n us e) ∙ h) in
+            let same : step.1 ≡ zs = ok_rest (record { name = n; arguments = step.0 }) x step.1 zs step.3 in
+            subst (λ ws. length ws < length rest) same (f.shorter step.0 step.1 step.2);
+      })
+    ]
     | inr f ↦
         let none : us ≡ rest = no_arguments us given rest g f.left.no_paren in
         inr (record {
@@ -213,11 +213,11 @@ unfolding attributes_from
 attributes_from_found zero found ts e h = absurd (ok_not_err (pure found ts) found ts e refl h)
 attributes_from_found (suc n) found ts e h = elim (when_split kind.At ts (each n found) (pure found) (Err e) at_inside h) [
   | inl at ↦ elim (bind_err (attribute at.0) (λ a. attributes_from n (found ++ a ∷ [])) e at.2) [
-      | inl bad ↦ let s = field_attribute_refuses.found at.0 e bad in (s.0, AttributesStop.here at.1 s.1, s.2)
-      | inr first ↦
-          let later = attributes_from_found n (found ++ first.0 ∷ []) first.1 e first.3 in
-          (later.0, AttributesStop.later at.1 (field_attribute_ok at.0 first.0 first.1 first.2) later.1, later.2)
-    ]
+    | inl bad ↦ let s = field_attribute_refuses.found at.0 e bad in (s.0, AttributesStop.here at.1 s.1, s.2)
+    | inr first ↦
+        let later = attributes_from_found n (found ++ first.0 ∷ []) first.1 e first.3 in
+        (later.0, AttributesStop.later at.1 (field_attribute_ok at.0 first.0 first.1 first.2) later.1, later.2)
+  ]
   | inr other ↦ absurd (ok_not_err (pure found ts) found ts e refl other.1)
 ]
 
@@ -257,11 +257,11 @@ attributes_from_reach zero found ts xs rest small (AreAttributes.more {us} s h d
 attributes_from_reach (suc n) found ts xs rest small AreAttributes.none = elim (next_is kind.At ts at_inside) [
   | inr none ↦ inl (when_no kind.At ts (each n found) (pure found) none ∙ ap (λ zs. Ok (zs, rest)) (sym (append-nil found)))
   | inl at ↦ inr (record {
-      left = tt;
-      shorter = λ ys us h.
-          let first = bind_ok (attribute at.0) (λ a. attributes_from n (found ++ a ∷ [])) ys us (sym (when_yes kind.At ts at.0 (each n found) (pure found) at_self at.1) ∙ h) in
-          omega (arith, sign_shrinks kind.At ts at.0 at.1, field_attribute_shrinks at.0 first.0 first.1 (field_attribute_ok at.0 first.0 first.1 first.2), run_shrinks n (found ++ first.0 ∷ []) first.1 ys us first.3);
-    })
+    left = tt;
+    shorter = λ ys us h.
+        let first = bind_ok (attribute at.0) (λ a. attributes_from n (found ++ a ∷ [])) ys us (sym (when_yes kind.At ts at.0 (each n found) (pure found) at_self at.1) ∙ h) in
+        omega (arith, sign_shrinks kind.At ts at.0 at.1, field_attribute_shrinks at.0 first.0 first.1 (field_attribute_ok at.0 first.0 first.1 first.2), run_shrinks n (found ++ first.0 ∷ []) first.1 ys us first.3);
+  })
 ]
 attributes_from_reach (suc n) found ts xs rest small (AreAttributes.more {us} {vs} {a} {as' = ys} s h d) =
     let goes = when_yes kind.At ts us (each n found) (pure found) at_self s in

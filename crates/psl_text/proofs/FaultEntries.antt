@@ -32,9 +32,9 @@ module _ (other : List (List ℕ) → Parser Entry) (OtherStops : List Token →
   unfolding of_block
   of_block_found ts e h = elim (when_split kind.AtAt ts (of_attribute (docs_of ts)) (other (docs_of ts)) (Err e) at_at_inside h) [
     | inl at ↦ elim (bind_err (block_attribute at.0) (λ found. pure (entry.Block found (docs_of ts))) e at.2) [
-        | inl bad ↦ let found = block_attribute_refuses.found at.0 e bad in (found.0, OfBlockStops.attribute at.1 found.1, found.2)
-        | inr step ↦ absurd (ok_not_err (pure (entry.Block step.0 (docs_of ts)) step.1) (entry.Block step.0 (docs_of ts)) step.1 e refl step.3)
-      ]
+      | inl bad ↦ let found = block_attribute_refuses.found at.0 e bad in (found.0, OfBlockStops.attribute at.1 found.1, found.2)
+      | inr step ↦ absurd (ok_not_err (pure (entry.Block step.0 (docs_of ts)) step.1) (entry.Block step.0 (docs_of ts)) step.1 e refl step.3)
+    ]
     | inr no_at ↦ let found = (refuses (docs_of ts)).found ts e no_at.1 in (found.0, OfBlockStops.other (sees_misses kind.AtAt ts no_at.0) found.1, found.2)
   ]
 
@@ -57,12 +57,12 @@ module _ (other : List (List ℕ) → Parser Entry) (OtherStops : List Token →
   of_block_reaches ts us a rest s h = elim (block_attribute_reaches us a rest h) [
     | inl e ↦ inl (attribute_follows ts us s ∙ bind_goes (block_attribute us) (λ found. pure (entry.Block found (docs_of ts))) a rest e)
     | inr f ↦ inr (record {
-        left = tt;
-        shorter = λ x zs g.
-            let step = bind_ok (block_attribute us) (λ found. pure (entry.Block found (docs_of ts))) x zs (sym (attribute_follows ts us s) ∙ g) in
-            let same : step.1 ≡ zs = ok_rest (entry.Block step.0 (docs_of ts)) x step.1 zs step.3 in
-            subst (λ ws. length ws < length rest) same (f.shorter step.0 step.1 step.2);
-      })
+      left = tt;
+      shorter = λ x zs g.
+          let step = bind_ok (block_attribute us) (λ found. pure (entry.Block found (docs_of ts))) x zs (sym (attribute_follows ts us s) ∙ g) in
+          let same : step.1 ≡ zs = ok_rest (entry.Block step.0 (docs_of ts)) x step.1 zs step.3 in
+          subst (λ ws. length ws < length rest) same (f.shorter step.0 step.1 step.2);
+    })
   ]
 
   -- what begins with a name is no attribute
@@ -130,6 +130,7 @@ module _ (w : Word) where
   turn n found = eat kind.Newline >>= λ is_blank. cond is_blank (entries_from w n found) (entry_of w >>= after_entry n found)
 
   entry_none : entry_of w [] ≡ refused []
+  unfolding EntryStops
   entry_none = (entry_refuses w).stops [] [] (nothing_begins w)
     where
       no_name : Misses kind.Name [] []
@@ -153,24 +154,24 @@ module _ (w : Word) where
   entries_from_found (suc n) found ts e small h = elim (when_split kind.CloseBrace ts (pure found) (turn n found) (Err e) brace_inside h) [
     | inl closes ↦ absurd (ok_not_err (pure found closes.0) found closes.0 e refl closes.2)
     | inr other ↦ elim (when_split kind.Newline ts (entries_from w n found) (entry_of w >>= after_entry n found) (Err e) newline_inside other.1) [
-        | inl blank ↦
-            let later = entries_from_found n found blank.0 e (omega (arith, sign_shrinks kind.Newline ts blank.0 blank.1)) blank.2 in
-            (later.0, EntriesStop.blank blank.1 later.1, later.2)
-        | inr goes ↦ elim (bind_err (entry_of w ts) (after_entry n found) e goes.1) [
-            | inl bad ↦ let s = (entry_refuses w).found ts e bad in (s.0, EntriesStop.entry (sees_misses kind.CloseBrace ts other.0) (sees_misses kind.Newline ts goes.0) s.1, s.2)
-            | inr first ↦
-                let read : IsEntry w ts first.0 first.1 = entry_ok w ts first.0 first.1 first.2 in
-                elim (bind_err (ending first.1) (λ _. entries_from w n (found ++ first.0 ∷ [])) e first.3) [
-                  | inl bad ↦
-                      let missed = ending_err first.1 e bad in
-                      (first.1, EntriesStop.behind (whole_read (IsEntry w) (EntryStops w) Anything (entry_of w) (entry_ok w) (entry_refuses w) (entry_reaches w) ts first.0 first.1 first.2) missed.no_newline missed.no_brace, missed.same)
-                  | inr second ↦
-                      let ends : Ends first.1 second.1 = ends_ok first.1 second.0 second.1 second.2 in
-                      let later = entries_from_found n (found ++ first.0 ∷ []) second.1 e (omega (arith, entry_shrinks w ts first.0 first.1 read, ends_shrink first.1 second.1 ends)) second.3 in
-                      (later.0, behind_end ts first.0 first.1 second.1 later.0 read ends later.1, later.2)
-                ]
-          ]
+      | inl blank ↦
+          let later = entries_from_found n found blank.0 e (omega (arith, sign_shrinks kind.Newline ts blank.0 blank.1)) blank.2 in
+          (later.0, EntriesStop.blank blank.1 later.1, later.2)
+      | inr goes ↦ elim (bind_err (entry_of w ts) (after_entry n found) e goes.1) [
+        | inl bad ↦ let s = (entry_refuses w).found ts e bad in (s.0, EntriesStop.entry (sees_misses kind.CloseBrace ts other.0) (sees_misses kind.Newline ts goes.0) s.1, s.2)
+        | inr first ↦
+            let read : IsEntry w ts first.0 first.1 = entry_ok w ts first.0 first.1 first.2 in
+            elim (bind_err (ending first.1) (λ _. entries_from w n (found ++ first.0 ∷ [])) e first.3) [
+              | inl bad ↦
+                  let missed = ending_err first.1 e bad in
+                  (first.1, EntriesStop.behind (whole_read (IsEntry w) (EntryStops w) Anything (entry_of w) (entry_ok w) (entry_refuses w) (entry_reaches w) ts first.0 first.1 first.2) missed.no_newline missed.no_brace, missed.same)
+              | inr second ↦
+                  let ends : Ends first.1 second.1 = ends_ok first.1 second.0 second.1 second.2 in
+                  let later = entries_from_found n (found ++ first.0 ∷ []) second.1 e (omega (arith, entry_shrinks w ts first.0 first.1 read, ends_shrink first.1 second.1 ends)) second.3 in
+                  (later.0, behind_end ts first.0 first.1 second.1 later.0 read ends later.1, later.2)
+            ]
       ]
+    ]
   ]
     where
       -- no entries stop at the closing brace

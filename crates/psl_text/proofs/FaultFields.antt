@@ -39,12 +39,12 @@ unfolding mark_of
 mark_found ts e h = elim (when_split kind.Question ts (pure mark.Optional) no_question (Err e) question_inside h) [
   | inl asks ↦ absurd (ok_not_err (pure mark.Optional asks.0) mark.Optional asks.0 e refl asks.2)
   | inr other ↦ elim (when_split kind.OpenBracket ts closing (pure mark.One) (Err e) bracket_inside other.1) [
-      | inl opens ↦ elim (bind_err (expect kind.CloseBracket opens.0) (λ _. pure mark.Many) e opens.2) [
-          | inl bad ↦ let found = expect_err kind.CloseBracket opens.0 e bad in (found.0, MarkStops.many opens.1 found.1, found.2)
-          | inr step ↦ absurd (ok_not_err (pure mark.Many step.1) mark.Many step.1 e refl step.3)
-        ]
-      | inr none ↦ absurd (ok_not_err (pure mark.One ts) mark.One ts e refl none.1)
+    | inl opens ↦ elim (bind_err (expect kind.CloseBracket opens.0) (λ _. pure mark.Many) e opens.2) [
+      | inl bad ↦ let found = expect_err kind.CloseBracket opens.0 e bad in (found.0, MarkStops.many opens.1 found.1, found.2)
+      | inr step ↦ absurd (ok_not_err (pure mark.Many step.1) mark.Many step.1 e refl step.3)
     ]
+    | inr none ↦ absurd (ok_not_err (pure mark.One ts) mark.One ts e refl none.1)
+  ]
 ]
 
 bracket_opens : (ts us : List Token) → Sign kind.OpenBracket ts us → mark_of ts ≡ closing us
@@ -61,23 +61,23 @@ mark_reaches ts m rest (IsMark.optional s) = inl (when_yes kind.Question ts rest
 mark_reaches ts m rest (IsMark.many {us} s c) = inl (bracket_opens ts us s ∙ bind_goes (expect kind.CloseBracket us) (λ _. pure mark.Many) tt rest (expect_sign kind.CloseBracket us rest close_bracket_self c))
 mark_reaches ts m rest IsMark.one = elim (next_is kind.Question ts question_inside) [
   | inl asks ↦ inr (record {
-      left = sign_other kind.Question kind.At ts asks.0 refl asks.1;
-      shorter = λ x us h.
-          let same : asks.0 ≡ us = ok_rest mark.Optional x asks.0 us (sym (when_yes kind.Question ts asks.0 (pure mark.Optional) no_question question_self asks.1) ∙ h) in
-          subst (λ zs. length zs < length ts) same (sign_shrinks kind.Question ts asks.0 asks.1);
-    })
+    left = sign_other kind.Question kind.At ts asks.0 refl asks.1;
+    shorter = λ x us h.
+        let same : asks.0 ≡ us = ok_rest mark.Optional x asks.0 us (sym (when_yes kind.Question ts asks.0 (pure mark.Optional) no_question question_self asks.1) ∙ h) in
+        subst (λ zs. length zs < length ts) same (sign_shrinks kind.Question ts asks.0 asks.1);
+  })
   | inr no_mark ↦ elim (next_is kind.OpenBracket ts bracket_inside) [
-      | inl opens ↦ inr (record {
-          left = sign_other kind.OpenBracket kind.At ts opens.0 refl opens.1;
-          shorter = λ x us h.
-              let step = bind_ok (expect kind.CloseBracket opens.0) (λ _. pure mark.Many) x us (sym (bracket_opens ts opens.0 opens.1) ∙ h) in
-              let same : step.1 ≡ us = ok_rest mark.Many x step.1 us step.3 in
-              let closes = sign_shrinks kind.CloseBracket opens.0 step.1 (expect_ok kind.CloseBracket opens.0 step.1 step.0 close_bracket_inside step.2) in
-              let below : length step.1 < length ts = omega (arith, closes, sign_shrinks kind.OpenBracket ts opens.0 opens.1) in
-              subst (λ zs. length zs < length ts) same below;
-        })
-      | inr none ↦ inl (mark_is ts mark.One ts IsMark.one no_mark none)
-    ]
+    | inl opens ↦ inr (record {
+      left = sign_other kind.OpenBracket kind.At ts opens.0 refl opens.1;
+      shorter = λ x us h.
+          let step = bind_ok (expect kind.CloseBracket opens.0) (λ _. pure mark.Many) x us (sym (bracket_opens ts opens.0 opens.1) ∙ h) in
+          let same : step.1 ≡ us = ok_rest mark.Many x step.1 us step.3 in
+          let closes = sign_shrinks kind.CloseBracket opens.0 step.1 (expect_ok kind.CloseBracket opens.0 step.1 step.0 close_bracket_inside step.2) in
+          let below : length step.1 < length ts = omega (arith, closes, sign_shrinks kind.OpenBracket ts opens.0 opens.1) in
+          subst (λ zs. length zs < length ts) same below;
+    })
+    | inr none ↦ inl (mark_is ts mark.One ts IsMark.one no_mark none)
+  ]
 ]
 
 -- ---- settings
@@ -97,11 +97,11 @@ setting_found ts e h = elim (bind_err (name ts) after_name e h) [
       elim (bind_err (expect kind.Equals first.1) (λ _. behind_equals first.0) e first.3) [
         | inl bad ↦ let found = expect_err kind.Equals first.1 e bad in (found.0, SettingStops.equals called found.1, found.2)
         | inr second ↦ elim (bind_err (whole_term second.1) (λ v. pure (entry.Setting first.0 v)) e second.3) [
-            | inl bad ↦
-                let found = (term_judges max_depth).refuses.found second.1 e bad in
-                (found.0, SettingStops.value called (expect_ok kind.Equals first.1 second.1 second.0 equals_inside second.2) found.1, found.2)
-            | inr third ↦ absurd (ok_not_err (pure (entry.Setting first.0 third.0) third.1) (entry.Setting first.0 third.0) third.1 e refl third.3)
-          ]
+          | inl bad ↦
+              let found = (term_judges max_depth).refuses.found second.1 e bad in
+              (found.0, SettingStops.value called (expect_ok kind.Equals first.1 second.1 second.0 equals_inside second.2) found.1, found.2)
+          | inr third ↦ absurd (ok_not_err (pure (entry.Setting first.0 third.0) third.1) (entry.Setting first.0 third.0) third.1 e refl third.3)
+        ]
       ]
 ]
 
@@ -124,12 +124,12 @@ pub setting_reaches : (ts us vs : List Token) (n : Name) (v : Term) (rest : List
 setting_reaches ts us vs n v rest s q t = elim ((term_judges max_depth).reaches vs v rest t) [
   | inl e ↦ inl (value_follows ts us vs n s q ∙ bind_goes (whole_term vs) (λ x. pure (entry.Setting n x)) v rest e)
   | inr f ↦ inr (record {
-      left = tt;
-      shorter = λ x zs h.
-          let step = bind_ok (whole_term vs) (λ y. pure (entry.Setting n y)) x zs (sym (value_follows ts us vs n s q) ∙ h) in
-          let same : step.1 ≡ zs = ok_rest (entry.Setting n step.0) x step.1 zs step.3 in
-          subst (λ ws. length ws < length rest) same (f.shorter step.0 step.1 step.2);
-    })
+    left = tt;
+    shorter = λ x zs h.
+        let step = bind_ok (whole_term vs) (λ y. pure (entry.Setting n y)) x zs (sym (value_follows ts us vs n s q) ∙ h) in
+        let same : step.1 ≡ zs = ok_rest (entry.Setting n step.0) x step.1 zs step.3 in
+        subst (λ ws. length ws < length rest) same (f.shorter step.0 step.1 step.2);
+  })
 ]
 
 -- ---- members
@@ -143,11 +143,11 @@ module _ (above : List (List ℕ)) where
   member_found ts e h = elim (bind_err (name ts) behind_member e h) [
     | inl bad ↦ let found = spelled_err kind.Name ts e bad in (found.0, MemberStops.name found.1, found.2)
     | inr first ↦ elim (bind_err (attributes first.1) (λ found. pure (entry.Member first.0 found above)) e first.3) [
-        | inl bad ↦
-            let found = attributes_refuse.found first.1 e bad in
-            (found.0, MemberStops.attributes (spelled_sees kind.Name ts first.0 first.1 (spelled_ok kind.Name ts first.1 first.0 name_inside first.2)) found.1, found.2)
-        | inr second ↦ absurd (ok_not_err (pure (entry.Member first.0 second.0 above) second.1) (entry.Member first.0 second.0 above) second.1 e refl second.3)
-      ]
+      | inl bad ↦
+          let found = attributes_refuse.found first.1 e bad in
+          (found.0, MemberStops.attributes (spelled_sees kind.Name ts first.0 first.1 (spelled_ok kind.Name ts first.1 first.0 name_inside first.2)) found.1, found.2)
+      | inr second ↦ absurd (ok_not_err (pure (entry.Member first.0 second.0 above) second.1) (entry.Member first.0 second.0 above) second.1 e refl second.3)
+    ]
   ]
 
   member_stops : (ts us : List Token) → MemberStops ts us → member above ts ≡ Err (refusal us)
@@ -169,12 +169,12 @@ module _ (above : List (List ℕ)) where
       elim (attributes_reach us found rest d) [
         | inl e ↦ inl (goes ∙ bind_goes (attributes us) (λ xs. pure (entry.Member n xs above)) found rest e)
         | inr f ↦ inr (record {
-            left = tt;
-            shorter = λ x zs h.
-                let step = bind_ok (attributes us) (λ xs. pure (entry.Member n xs above)) x zs (sym goes ∙ h) in
-                let same : step.1 ≡ zs = ok_rest (entry.Member n step.0 above) x step.1 zs step.3 in
-                subst (λ ws. length ws < length rest) same (f.shorter step.0 step.1 step.2);
-          })
+          left = tt;
+          shorter = λ x zs h.
+              let step = bind_ok (attributes us) (λ xs. pure (entry.Member n xs above)) x zs (sym goes ∙ h) in
+              let same : step.1 ≡ zs = ok_rest (entry.Member n step.0 above) x step.1 zs step.3 in
+              subst (λ ws. length ws < length rest) same (f.shorter step.0 step.1 step.2);
+        })
       ]
 
   -- ---- fields
@@ -201,12 +201,12 @@ module _ (above : List (List ℕ)) where
               elim (bind_err (mark_of second.1) (behind_mark first.0 second.0) e second.3) [
                 | inl bad ↦ let found = mark_found second.1 e bad in (found.0, FieldStops.mark called typed found.1, found.2)
                 | inr third ↦ elim (bind_err (attributes third.1) (λ found. pure (entry.Field first.0 second.0 third.0 found above)) e third.3) [
-                    | inl bad ↦
-                        let found = attributes_refuse.found third.1 e bad in
-                        (found.0, FieldStops.attributes called typed (mark_ok second.1 third.0 third.1 third.2) found.1, found.2)
-                    | inr fourth ↦
-                        absurd (ok_not_err (pure (entry.Field first.0 second.0 third.0 fourth.0 above) fourth.1) (entry.Field first.0 second.0 third.0 fourth.0 above) fourth.1 e refl fourth.3)
-                  ]
+                  | inl bad ↦
+                      let found = attributes_refuse.found third.1 e bad in
+                      (found.0, FieldStops.attributes called typed (mark_ok second.1 third.0 third.1 third.2) found.1, found.2)
+                  | inr fourth ↦
+                      absurd (ok_not_err (pure (entry.Field first.0 second.0 third.0 fourth.0 above) fourth.1) (entry.Field first.0 second.0 third.0 fourth.0 above) fourth.1 e refl fourth.3)
+                ]
               ]
         ]
   ]
@@ -244,12 +244,12 @@ module _ (above : List (List ℕ)) where
         elim (attributes_reach ws found rest d) [
           | inl a ↦ inl (goes ∙ bind_goes (attributes ws) (λ xs. pure (entry.Field n k m xs above)) found rest a)
           | inr f ↦ inr (record {
-              left = tt;
-              shorter = λ x zs g.
-                  let step = bind_ok (attributes ws) (λ xs. pure (entry.Field n k m xs above)) x zs (sym goes ∙ g) in
-                  let same : step.1 ≡ zs = ok_rest (entry.Field n k m step.0 above) x step.1 zs step.3 in
-                  subst (λ qs. length qs < length rest) same (f.shorter step.0 step.1 step.2);
-            })
+            left = tt;
+            shorter = λ x zs g.
+                let step = bind_ok (attributes ws) (λ xs. pure (entry.Field n k m xs above)) x zs (sym goes ∙ g) in
+                let same : step.1 ≡ zs = ok_rest (entry.Field n k m step.0 above) x step.1 zs step.3 in
+                subst (λ qs. length qs < length rest) same (f.shorter step.0 step.1 step.2);
+          })
         ]
     | inr f ↦
         let none : ws ≡ rest = no_attributes ws found rest d f.left in

@@ -32,9 +32,9 @@ module _ (value : Parser Term) (Value : List Token → Term → List Token → T
   named_refused : (ts us : List Token) (n : Name) (e : TextFault) → Sign kind.Name ts us → behind_name n us ≡ Err e → (vs : List Token) × TermStopsOf Value ValueStops ts vs × (e ≡ refusal vs)
   named_refused ts us n e s h = elim (when_split kind.OpenParen us (arguments value >>= λ given. pure (term.Call n given)) (pure (term.Name n)) (Err e) paren_inside h) [
     | inl opens ↦ elim (bind_err (arguments value opens.0) (λ given. pure (term.Call n given)) e opens.2) [
-        | inl bad ↦ let found = (arguments_refuse value Value ValueStops is judges).found opens.0 e bad in (found.0, TermStopsOf.call s opens.1 found.1, found.2)
-        | inr step ↦ absurd (ok_not_err (pure (term.Call n step.0) step.1) (term.Call n step.0) step.1 e refl step.3)
-      ]
+      | inl bad ↦ let found = (arguments_refuse value Value ValueStops is judges).found opens.0 e bad in (found.0, TermStopsOf.call s opens.1 found.1, found.2)
+      | inr step ↦ absurd (ok_not_err (pure (term.Call n step.0) step.1) (term.Call n step.0) step.1 e refl step.3)
+    ]
     | inr other ↦ absurd (ok_not_err (pure (term.Name n) us) (term.Name n) us e refl other.1)
   ]
 
@@ -55,11 +55,11 @@ module _ (value : Parser Term) (Value : List Token → Term → List Token → T
   term_found kind.OpenBracket ts e seen h = elim (bind_err (spelled kind.OpenBracket ts) (λ n. items value >>= λ xs. pure (term.List xs n.at)) e h) [
     | inl bad ↦ let found = spelled_err kind.OpenBracket ts e bad in absurd (kind_not_missed kind.OpenBracket ts found.0 seen found.1)
     | inr step ↦ elim (bind_err (items value step.1) (λ xs. pure (term.List xs step.0.at)) e step.3) [
-        | inl bad ↦
-            let found = (items_refuse value Value ValueStops is judges).found step.1 e bad in
-            (found.0, TermStopsOf.list (spelled_sees kind.OpenBracket ts step.0 step.1 (spelled_ok kind.OpenBracket ts step.1 step.0 bracket_inside step.2)) found.1, found.2)
-        | inr given ↦ absurd (ok_not_err (pure (term.List given.0 step.0.at) given.1) (term.List given.0 step.0.at) given.1 e refl given.3)
-      ]
+      | inl bad ↦
+          let found = (items_refuse value Value ValueStops is judges).found step.1 e bad in
+          (found.0, TermStopsOf.list (spelled_sees kind.OpenBracket ts step.0 step.1 (spelled_ok kind.OpenBracket ts step.1 step.0 bracket_inside step.2)) found.1, found.2)
+      | inr given ↦ absurd (ok_not_err (pure (term.List given.0 step.0.at) given.1) (term.List given.0 step.0.at) given.1 e refl given.3)
+    ]
   ]
   term_found _ ts e seen h =
       (ts, TermStopsOf.begins (λ t. absurd (cc)) (λ t. absurd (cc)) (λ t. absurd (cc)) (λ t. absurd (cc)), faults_same (refused {A = Term} ts) e (refusal ts) h refl)
@@ -114,14 +114,14 @@ module _ (value : Parser Term) (Value : List Token → Term → List Token → T
   level_reaches ts v rest (IsTermOf.name {n} s) = elim (next_is kind.OpenParen rest paren_inside) [
     | inr none ↦ inl (level_name ts rest n s ∙ when_no kind.OpenParen rest (arguments value >>= λ given. pure (term.Call n given)) (pure (term.Name n)) none)
     | inl opens ↦ inr (record {
-        left = tt;
-        shorter = λ x us h.
-            let step = bind_ok (arguments value opens.0) (λ given. pure (term.Call n given)) x us (sym (call_goes_on ts rest opens.0 n s opens.1) ∙ h) in
-            let same : step.1 ≡ us = ok_rest (term.Call n step.0) x step.1 us step.3 in
-            let shrinks = separated_shrinks (IsArgument Value) kind.CloseParen (argument_shrinks value Value is) opens.0 step.0 step.1 (arguments_ok value Value is opens.0 step.0 step.1 step.2) in
-            let below : length step.1 < length rest = omega (arith, shrinks, sign_shrinks kind.OpenParen rest opens.0 opens.1) in
-            subst (λ zs. length zs < length rest) same below;
-      })
+      left = tt;
+      shorter = λ x us h.
+          let step = bind_ok (arguments value opens.0) (λ given. pure (term.Call n given)) x us (sym (call_goes_on ts rest opens.0 n s opens.1) ∙ h) in
+          let same : step.1 ≡ us = ok_rest (term.Call n step.0) x step.1 us step.3 in
+          let shrinks = separated_shrinks (IsArgument Value) kind.CloseParen (argument_shrinks value Value is) opens.0 step.0 step.1 (arguments_ok value Value is opens.0 step.0 step.1 step.2) in
+          let below : length step.1 < length rest = omega (arith, shrinks, sign_shrinks kind.OpenParen rest opens.0 opens.1) in
+          subst (λ zs. length zs < length rest) same below;
+    })
   ]
 
   level_named : (ts us : List Token) (n : Name) (v : Term) (rest : List Token) → IsTermOf Value ts v rest → Spelled kind.Name ts n us → sees kind.OpenParen us ≡ false → rest ≡ us

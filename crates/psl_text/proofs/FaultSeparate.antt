@@ -43,19 +43,19 @@ module _ {A : Type 0} (Item : List Token → A → List Token → Type 0) (ItemS
       elim (when_split close ts (pure found) (item >>= then_on n found) (Err e) inside h) [
         | inl closes ↦ absurd (ok_not_err (pure found closes.0) found closes.0 e refl closes.2)
         | inr other ↦ elim (bind_err (item ts) (then_on n found) e other.1) [
-            | inl bad ↦ let s = refuses.found ts e bad in (s.0, SeparatedStops.item (sees_misses close ts other.0) s.1, s.2)
-            | inr step ↦
-                let read : Item ts step.0 step.1 = item_ok ts step.0 step.1 step.2 in
-                elim (when_split kind.Comma step.1 (separated item close n (found ++ step.0 ∷ [])) (expect close >> pure (found ++ step.0 ∷ [])) (Err e) comma_inside step.3) [
-                  | inl goes ↦
-                      let later = separated_found n (found ++ step.0 ∷ []) goes.0 e (omega (arith, shrinks ts step.0 step.1 read, sign_shrinks kind.Comma step.1 goes.0 goes.1)) goes.2 in
-                      (later.0, SeparatedStops.later read goes.1 later.1, later.2)
-                  | inr stops ↦ elim (bind_err (expect close step.1) (λ _. pure (found ++ step.0 ∷ [])) e stops.1) [
-                      | inl bad ↦ close_missed ts step.0 step.1 e step.2 stops.0 (expect_err close step.1 e bad)
-                      | inr closing ↦ absurd (ok_not_err (pure (found ++ step.0 ∷ []) closing.1) (found ++ step.0 ∷ []) closing.1 e refl closing.3)
-                    ]
+          | inl bad ↦ let s = refuses.found ts e bad in (s.0, SeparatedStops.item (sees_misses close ts other.0) s.1, s.2)
+          | inr step ↦
+              let read : Item ts step.0 step.1 = item_ok ts step.0 step.1 step.2 in
+              elim (when_split kind.Comma step.1 (separated item close n (found ++ step.0 ∷ [])) (expect close >> pure (found ++ step.0 ∷ [])) (Err e) comma_inside step.3) [
+                | inl goes ↦
+                    let later = separated_found n (found ++ step.0 ∷ []) goes.0 e (omega (arith, shrinks ts step.0 step.1 read, sign_shrinks kind.Comma step.1 goes.0 goes.1)) goes.2 in
+                    (later.0, SeparatedStops.later read goes.1 later.1, later.2)
+                | inr stops ↦ elim (bind_err (expect close step.1) (λ _. pure (found ++ step.0 ∷ [])) e stops.1) [
+                  | inl bad ↦ close_missed ts step.0 step.1 e step.2 stops.0 (expect_err close step.1 e bad)
+                  | inr closing ↦ absurd (ok_not_err (pure (found ++ step.0 ∷ []) closing.1) (found ++ step.0 ∷ []) closing.1 e refl closing.3)
                 ]
-          ]
+              ]
+        ]
       ]
     where
       close_missed : (ts : List Token) (x : A) (us : List Token) (e : TextFault) → item ts ≡ Ok (x, us) → sees kind.Comma us ≡ false → ((vs : List Token) × Misses close us vs × (e ≡ refusal vs)) → (vs : List Token) × SeparatedStops Item ItemStops close ts vs × (e ≡ refusal vs)

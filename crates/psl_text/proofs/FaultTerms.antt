@@ -20,7 +20,6 @@ use Rattle.psl_text.proofs.FaultSeparate.{separated_found, separated_stops}
 
 -- ---- the name of an argument
 
-
 colon_no_paren : same_kind kind.Colon kind.OpenParen ≡ false
 unfolding same_kind
 colon_no_paren = refl
@@ -131,12 +130,12 @@ module _ (value : Parser Term) (Value : List Token → Term → List Token → T
   value_reaches ts us o v rest e h = elim (judges.reaches us v rest h) [
     | inl ok ↦ inl (after_name ts us o e ∙ bind_goes (value us) (λ x. pure (roll-Argument (record { name = o; value = x }))) v rest ok)
     | inr f ↦ inr (record {
-        left = tt;
-        shorter = λ a zs k.
-            let step = bind_ok (value us) (λ x. pure (roll-Argument (record { name = o; value = x }))) a zs (sym (after_name ts us o e) ∙ k) in
-            let same : step.1 ≡ zs = ok_rest (roll-Argument (record { name = o; value = step.0 })) a step.1 zs step.3 in
-            subst (λ ws. length ws < length rest) same (f.shorter step.0 step.1 step.2);
-      })
+      left = tt;
+      shorter = λ a zs k.
+          let step = bind_ok (value us) (λ x. pure (roll-Argument (record { name = o; value = x }))) a zs (sym (after_name ts us o e) ∙ k) in
+          let same : step.1 ≡ zs = ok_rest (roll-Argument (record { name = o; value = step.0 })) a step.1 zs step.3 in
+          subst (λ ws. length ws < length rest) same (f.shorter step.0 step.1 step.2);
+    })
   ]
 
   argument_reaches : Reaches (argument value) Anything (IsArgument Value)

@@ -21,3 +21,5 @@ pub mod FaultLevels
 pub mod FaultAttributes
 pub mod FaultFields
 pub mod FaultEntries
+pub mod FaultBlocks
+pub mod FaultTexts
