@@ -18,19 +18,19 @@ use Rattle.psl_text.proofs.LevelRules.{term_value, separated_shrinks}
 pub finish : {A : Type 0} (R : A → List Token → Type 0) (x y : A) (us rest : List Token) → done x us ≡ done y rest → R x us → R y rest
 finish R x y us rest e h = subst (λ zs. R y zs) (ok_rest x y us rest e) (subst (λ a. R a us) (ok_value x y us rest e) h)
 
-dot_inside : IsInside kind.Dot
+pub dot_inside : IsInside kind.Dot
 unfolding same_kind
 dot_inside = record { other = refl }
 
-dot_self : same_kind kind.Dot kind.Dot ≡ true
+pub dot_self : same_kind kind.Dot kind.Dot ≡ true
 unfolding same_kind
 dot_self = refl
 
-at_inside : IsInside kind.At
+pub at_inside : IsInside kind.At
 unfolding same_kind
 at_inside = record { other = refl }
 
-at_self : same_kind kind.At kind.At ≡ true
+pub at_self : same_kind kind.At kind.At ≡ true
 unfolding same_kind
 at_self = refl
 
@@ -40,7 +40,7 @@ stop_at = record { no_arguments = refl; no_name = refl; no_dot = refl; no_fault 
 
 -- ---- names
 
-attribute_name_ok : (ts : List Token) (n : Name) (rest : List Token) → attribute_name ts ≡ Ok (n, rest) → IsAttributeName ts n rest
+pub attribute_name_ok : (ts : List Token) (n : Name) (rest : List Token) → attribute_name ts ≡ Ok (n, rest) → IsAttributeName ts n rest
 unfolding attribute_name
 attribute_name_ok ts n rest e =
     let first = bind_ok (name ts) (λ m. eat kind.Dot >>= λ dots. cond dots (name >>= λ second. pure (record { text = m.text ++ 46 ∷ second.text; at = m.at })) (pure m)) n rest e in
@@ -53,7 +53,7 @@ attribute_name_ok ts n rest e =
       | inr other ↦ finish (IsAttributeName ts) first.0 n first.1 rest other.1 (IsAttributeName.plain called)
     ]
 
-attribute_name_is : (ts : List Token) (n : Name) (rest : List Token) → IsAttributeName ts n rest → sees kind.Dot rest ≡ false → attribute_name ts ≡ Ok (n, rest)
+pub attribute_name_is : (ts : List Token) (n : Name) (rest : List Token) → IsAttributeName ts n rest → sees kind.Dot rest ≡ false → attribute_name ts ≡ Ok (n, rest)
 unfolding attribute_name
 attribute_name_is ts n rest (IsAttributeName.plain s) no_dot =
     ap (λ o. and_then o (λ m. eat kind.Dot >>= λ dots. cond dots (name >>= λ second. pure (record { text = m.text ++ 46 ∷ second.text; at = m.at })) (pure m))) (spelled_is kind.Name ts rest n name_self s)
@@ -63,14 +63,14 @@ attribute_name_is ts n rest (IsAttributeName.dotted {us} {vs} {n = first} {m} s 
     ∙ when_yes kind.Dot us vs (name >>= λ second. pure (record { text = first.text ++ 46 ∷ second.text; at = first.at })) (pure first) dot_self d
     ∙ ap (λ o. and_then o (λ second. pure (record { text = first.text ++ 46 ∷ second.text; at = first.at }))) (spelled_is kind.Name vs rest m name_self t)
 
-attribute_name_shrinks : (ts : List Token) (n : Name) (rest : List Token) → IsAttributeName ts n rest → length rest < length ts
+pub attribute_name_shrinks : (ts : List Token) (n : Name) (rest : List Token) → IsAttributeName ts n rest → length rest < length ts
 attribute_name_shrinks ts n rest (IsAttributeName.plain s) = sign_shrinks kind.Name ts rest (spelled_sees kind.Name ts n rest s)
 attribute_name_shrinks ts n rest (IsAttributeName.dotted {us} {vs} {n = first} {m} s d t) =
     omega (arith, sign_shrinks kind.Name ts us (spelled_sees kind.Name ts first us s), sign_shrinks kind.Dot us vs d, sign_shrinks kind.Name vs rest (spelled_sees kind.Name vs m rest t))
 
 -- ---- arguments
 
-if_any_ok : (ts : List Token) (xs : List Argument) (rest : List Token) → arguments_if_any ts ≡ Ok (xs, rest) → MayHaveArguments ts xs rest
+pub if_any_ok : (ts : List Token) (xs : List Argument) (rest : List Token) → arguments_if_any ts ≡ Ok (xs, rest) → MayHaveArguments ts xs rest
 unfolding arguments_if_any
 if_any_ok ts xs rest e =
     elim (when_ok kind.OpenParen ts (arguments whole_term) (pure []) xs rest paren_inside e) [
@@ -89,7 +89,7 @@ unfolding same_kind
 if_any_no_dot ts xs rest MayHaveArguments.none stop = stop.no_dot
 if_any_no_dot ts xs rest (MayHaveArguments.some {us} p d) stop = sign_other kind.OpenParen kind.Dot ts us refl p
 
-if_any_shrinks : (ts : List Token) (xs : List Argument) (rest : List Token) → MayHaveArguments ts xs rest → length rest ≤ length ts
+pub if_any_shrinks : (ts : List Token) (xs : List Argument) (rest : List Token) → MayHaveArguments ts xs rest → length rest ≤ length ts
 if_any_shrinks ts xs rest MayHaveArguments.none = omega arith
 if_any_shrinks ts xs rest (MayHaveArguments.some {us} p d) =
     omega (arith, sign_shrinks kind.OpenParen ts us p, separated_shrinks (IsArgument (IsTerm max_depth)) kind.CloseParen (argument_shrinks whole_term (IsTerm max_depth) (term_value max_depth)) us xs rest d)
@@ -117,24 +117,24 @@ module _ (called : Parser Name) (Called : List Token → Name → List Token →
   pub attribute_shrinks : (ts : List Token) (a : Attribute) (rest : List Token) → IsAttribute Called ts a rest → length rest < length ts
   attribute_shrinks ts a rest (IsAttribute.attribute {us} {n} {given} c g) = omega (arith, called_shrinks ts n us c, if_any_shrinks us given rest g)
 
-field_attribute_ok : (ts : List Token) (a : Attribute) (rest : List Token) → attribute ts ≡ Ok (a, rest) → IsAttribute IsAttributeName ts a rest
+pub field_attribute_ok : (ts : List Token) (a : Attribute) (rest : List Token) → attribute ts ≡ Ok (a, rest) → IsAttribute IsAttributeName ts a rest
 unfolding attribute
 field_attribute_ok = attribute_ok attribute_name IsAttributeName attribute_name_ok attribute_name_is attribute_name_shrinks
 
-field_attribute_is : (ts : List Token) (a : Attribute) (rest : List Token) → IsAttribute IsAttributeName ts a rest → Stops rest → attribute ts ≡ Ok (a, rest)
+pub field_attribute_is : (ts : List Token) (a : Attribute) (rest : List Token) → IsAttribute IsAttributeName ts a rest → Stops rest → attribute ts ≡ Ok (a, rest)
 unfolding attribute
 field_attribute_is = attribute_is attribute_name IsAttributeName attribute_name_ok attribute_name_is attribute_name_shrinks
 
-field_attribute_shrinks : (ts : List Token) (a : Attribute) (rest : List Token) → IsAttribute IsAttributeName ts a rest → length rest < length ts
+pub field_attribute_shrinks : (ts : List Token) (a : Attribute) (rest : List Token) → IsAttribute IsAttributeName ts a rest → length rest < length ts
 field_attribute_shrinks = attribute_shrinks attribute_name IsAttributeName attribute_name_ok attribute_name_is attribute_name_shrinks
 
-plain_ok : (ts : List Token) (n : Name) (us : List Token) → name ts ≡ Ok (n, us) → Spelled kind.Name ts n us
+pub plain_ok : (ts : List Token) (n : Name) (us : List Token) → name ts ≡ Ok (n, us) → Spelled kind.Name ts n us
 plain_ok ts n us e = spelled_ok kind.Name ts us n name_inside e
 
 plain_is : (ts : List Token) (n : Name) (us : List Token) → Spelled kind.Name ts n us → sees kind.Dot us ≡ false → name ts ≡ Ok (n, us)
 plain_is ts n us s no_dot = spelled_is kind.Name ts us n name_self s
 
-plain_shrinks : (ts : List Token) (n : Name) (us : List Token) → Spelled kind.Name ts n us → length us < length ts
+pub plain_shrinks : (ts : List Token) (n : Name) (us : List Token) → Spelled kind.Name ts n us → length us < length ts
 plain_shrinks ts n us s = sign_shrinks kind.Name ts us (spelled_sees kind.Name ts n us s)
 
 pub block_attribute_ok : (ts : List Token) (a : Attribute) (rest : List Token) → block_attribute ts ≡ Ok (a, rest) → IsAttribute (Spelled kind.Name) ts a rest
@@ -150,10 +150,11 @@ block_attribute_shrinks = attribute_shrinks name (Spelled kind.Name) plain_ok pl
 
 -- ---- runs of attributes
 
-attributes_from_ok : (n : ℕ) (found : List Attribute) (ts : List Token) (xs : List Attribute) (rest : List Token) → attributes_from n found ts ≡ Ok (xs, rest)
+pub attributes_from_ok : (n : ℕ) (found : List Attribute) (ts : List Token) (xs : List Attribute) (rest : List Token) → attributes_from n found ts ≡ Ok (xs, rest)
     → (ys : List Attribute) × (xs ≡ found ++ ys) × AreAttributes ts ys rest
 unfolding attributes_from
-attributes_from_ok zero found ts xs rest e = absurd (cc)
+attributes_from_ok zero found ts xs rest e =
+    ([], sym (ok_value found xs ts rest e) ∙ sym (append-nil found), subst (λ zs. AreAttributes ts [] zs) (ok_rest found xs ts rest e) AreAttributes.none)
 attributes_from_ok (suc n) found ts xs rest e =
     elim (when_ok kind.At ts (attribute >>= λ a. attributes_from n (found ++ a ∷ [])) (pure found) xs rest at_inside e) [
       | inl at ↦

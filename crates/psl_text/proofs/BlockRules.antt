@@ -23,11 +23,11 @@ use Rattle.psl_text.proofs.EntryRules.{newline_inside, newline_self, entries_ok,
 use Rattle.psl_text.proofs.Whole.{tree_of_text}
 use Rattle.psl_text.proofs.Cutting.{tokens_are, tokens_only}
 
-open_inside : IsInside kind.OpenBrace
+pub open_inside : IsInside kind.OpenBrace
 unfolding same_kind
 open_inside = record { other = refl }
 
-open_self : same_kind kind.OpenBrace kind.OpenBrace ≡ true
+pub open_self : same_kind kind.OpenBrace kind.OpenBrace ≡ true
 unfolding same_kind
 open_self = refl
 
@@ -37,7 +37,7 @@ word_by_ok : (o : Option Word) (ts : List Token) (w : Word) (rest : List Token) 
 word_by_ok None ts w rest e = absurd (cc)
 word_by_ok (Some v) ts w rest e = (ap Some (ok_value v w (rest_of ts) rest e), ok_rest v w (rest_of ts) rest e)
 
-word_ok : (ts : List Token) (w : Word) (rest : List Token) → word_of ts ≡ Ok (w, rest) → (b : Name) × Spelled kind.Name ts b rest × (word_named b.text ≡ Some w)
+pub word_ok : (ts : List Token) (w : Word) (rest : List Token) → word_of ts ≡ Ok (w, rest) → (b : Name) × Spelled kind.Name ts b rest × (word_named b.text ≡ Some w)
 unfolding word_of sees kind_of text_of rest_of same_kind
 word_ok [] w rest e = absurd (cc)
 word_ok (t ∷ ts) w rest e = by_test (same_kind t.kind kind.Name) refl e
@@ -48,7 +48,7 @@ word_ok (t ∷ ts) w rest e = by_test (same_kind t.kind kind.Name) refl e
         (record { text = t.text; at = t.at }, subst (Spelled kind.Name (t ∷ ts) (record { text = t.text; at = t.at })) parts.1 (Spelled.spelled (kinds_same t.kind kind.Name seen)), parts.0)
     by_test false seen h = absurd (cc)
 
-word_is : (ts : List Token) (b : Name) (w : Word) (rest : List Token) → Spelled kind.Name ts b rest → word_named b.text ≡ Some w → word_of ts ≡ Ok (w, rest)
+pub word_is : (ts : List Token) (b : Name) (w : Word) (rest : List Token) → Spelled kind.Name ts b rest → word_named b.text ≡ Some w → word_of ts ≡ Ok (w, rest)
 unfolding word_of sees kind_of text_of rest_of
 word_is ts b w rest (Spelled.spelled {t} e) named =
     ap (λ x. cond x (word_by (word_named t.text) (t ∷ rest)) (refuse (t ∷ rest))) (ap (λ k. same_kind k kind.Name) e ∙ name_self)
@@ -56,7 +56,7 @@ word_is ts b w rest (Spelled.spelled {t} e) named =
 
 -- ---- a block
 
-block_ok : (ts : List Token) (b : Block) (rest : List Token) → block ts ≡ Ok (b, rest) → IsBlock ts b rest
+pub block_ok : (ts : List Token) (b : Block) (rest : List Token) → block ts ≡ Ok (b, rest) → IsBlock ts b rest
 unfolding block
 block_ok ts b rest e =
     let first = bind_ok (word_of ts) (λ w. name >>= λ n. expect kind.OpenBrace >> (entries w >>= λ es. pure (record { word = w; name = n; docs = docs_of ts; entries = es }))) b rest e in
@@ -68,7 +68,7 @@ block_ok ts b rest e =
     (IsBlock.block begins.1 begins.2 (spelled_ok kind.Name first.1 second.1 second.0 name_inside second.2) (expect_ok kind.OpenBrace second.1 third.1 third.0 open_inside third.2)
     (entries_ok first.0 third.1 fourth.0 fourth.1 fourth.2))
 
-block_is : (ts : List Token) (b : Block) (rest : List Token) → IsBlock ts b rest → block ts ≡ Ok (b, rest)
+pub block_is : (ts : List Token) (b : Block) (rest : List Token) → IsBlock ts b rest → block ts ≡ Ok (b, rest)
 unfolding block
 block_is ts x rest (IsBlock.block {us} {vs} {ws} {b} {n} {w} {es} s named t o d) =
     ap (λ r. and_then r (λ v. name >>= λ m. expect kind.OpenBrace >> (entries v >>= λ xs. pure (record { word = v; name = m; docs = docs_of ts; entries = xs })))) (word_is ts b w us s named)
@@ -76,11 +76,11 @@ block_is ts x rest (IsBlock.block {us} {vs} {ws} {b} {n} {w} {es} s named t o d)
     ∙ ap (λ r. and_then r (λ _. entries w >>= λ xs. pure (record { word = w; name = n; docs = docs_of ts; entries = xs }))) (expect_sign kind.OpenBrace vs ws open_self o)
     ∙ ap (λ r. and_then r (λ xs. pure (record { word = w; name = n; docs = docs_of ts; entries = xs }))) (entries_is w ws es rest d)
 
-block_shrinks : (ts : List Token) (b : Block) (rest : List Token) → IsBlock ts b rest → length rest < length ts
+pub block_shrinks : (ts : List Token) (b : Block) (rest : List Token) → IsBlock ts b rest → length rest < length ts
 block_shrinks ts x rest (IsBlock.block {us} {vs} {ws} {b} {n} {w} {es} s named t o d) =
     omega (arith, sign_shrinks kind.Name ts us (spelled_sees kind.Name ts b us s), sign_shrinks kind.Name us vs (spelled_sees kind.Name us n vs t), sign_shrinks kind.OpenBrace vs ws o, entries_shrink w ws es rest d)
 
-block_begins : (l : Kind) (ts : List Token) (b : Block) (rest : List Token) → same_kind kind.Name l ≡ false → IsBlock ts b rest → sees l ts ≡ false
+pub block_begins : (l : Kind) (ts : List Token) (b : Block) (rest : List Token) → same_kind kind.Name l ≡ false → IsBlock ts b rest → sees l ts ≡ false
 block_begins l ts x rest other (IsBlock.block {us} {b} s named t o d) = sign_other kind.Name l ts us other (spelled_sees kind.Name ts b us s)
 
 -- ---- all blocks
@@ -170,7 +170,7 @@ with_length_ok (Ok p) n tree e =
 with_length_ok (Err f) n tree e = absurd (cc)
 
 -- what is read has that tree
-tree_is_derived : (text : List ℕ) (tree : Tree) → IsText text → tree_of text ≡ Ok tree → HasTree text tree
+pub tree_is_derived : (text : List ℕ) (tree : Tree) → IsText text → tree_of text ≡ Ok tree → HasTree text tree
 tree_is_derived text tree is e =
     let parts = with_length_ok (blocks (tokens_of text)) (length text) tree (sym (tree_of_text text is.short is.utf8) ∙ e) in
     record { is = is; size = sym parts.2; derived = (tokens_of text, parts.0, tokens_are text, blocks_ok (tokens_of text) tree.blocks parts.0 parts.1) }
@@ -185,14 +185,3 @@ only_tree text answer e tree h = subst (λ r. Answers r answer) (tree_is_read te
 -- a text has at most one tree
 pub one_tree_only : (text : List ℕ) (a b : Tree) → HasTree text a → HasTree text b → a ≡ b
 one_tree_only text a b h k = trees_same a b (sym (tree_is_read text a h) ∙ tree_is_read text b k)
-
--- ---- faults
-
-pub found_fault : (text : List ℕ) (answer : Result Tree TextFault) → Answers (tree_of text) answer → IfErr answer (λ e. e ≢ fault.Memory → HasFault text e)
-unfolding HasFault
-found_fault text (Ok tree) e = tt
-found_fault text (Err f) e = e
-
-pub only_fault : (text : List ℕ) (answer : Result Tree TextFault) → Answers (tree_of text) answer → (f : TextFault) → HasFault text f → Answers (Err f) answer
-unfolding HasFault
-only_fault text answer e f h = subst (λ r. Answers r answer) h e

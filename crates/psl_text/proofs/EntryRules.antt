@@ -22,27 +22,27 @@ use Rattle.psl_text.proofs.TermRules.{IsStop, stops, name_inside, name_self, bra
 use Rattle.psl_text.proofs.LevelRules.{term_value}
 use Rattle.psl_text.proofs.AttributeRules.{finish, block_attribute_ok, block_attribute_is, block_attribute_shrinks, attributes_ok, attributes_is, attributes_begin, attributes_shrink}
 
-question_inside : IsInside kind.Question
+pub question_inside : IsInside kind.Question
 unfolding same_kind
 question_inside = record { other = refl }
 
-question_self : same_kind kind.Question kind.Question ≡ true
+pub question_self : same_kind kind.Question kind.Question ≡ true
 unfolding same_kind
 question_self = refl
 
-equals_inside : IsInside kind.Equals
+pub equals_inside : IsInside kind.Equals
 unfolding same_kind
 equals_inside = record { other = refl }
 
-equals_self : same_kind kind.Equals kind.Equals ≡ true
+pub equals_self : same_kind kind.Equals kind.Equals ≡ true
 unfolding same_kind
 equals_self = refl
 
-at_at_inside : IsInside kind.AtAt
+pub at_at_inside : IsInside kind.AtAt
 unfolding same_kind
 at_at_inside = record { other = refl }
 
-at_at_self : same_kind kind.AtAt kind.AtAt ≡ true
+pub at_at_self : same_kind kind.AtAt kind.AtAt ≡ true
 unfolding same_kind
 at_at_self = refl
 
@@ -54,17 +54,17 @@ pub newline_self : same_kind kind.Newline kind.Newline ≡ true
 unfolding same_kind
 newline_self = refl
 
-brace_inside : IsInside kind.CloseBrace
+pub brace_inside : IsInside kind.CloseBrace
 unfolding same_kind
 brace_inside = record { other = refl }
 
-brace_self : same_kind kind.CloseBrace kind.CloseBrace ≡ true
+pub brace_self : same_kind kind.CloseBrace kind.CloseBrace ≡ true
 unfolding same_kind
 brace_self = refl
 
 -- ---- the end of an entry
 
-ends_ok : (ts : List Token) (u : Unit {0}) (rest : List Token) → ending ts ≡ Ok (u, rest) → Ends ts rest
+pub ends_ok : (ts : List Token) (u : Unit {0}) (rest : List Token) → ending ts ≡ Ok (u, rest) → Ends ts rest
 unfolding ending
 ends_ok ts u rest e = by_test (sees kind.CloseBrace ts) refl e
   where
@@ -72,14 +72,14 @@ ends_ok ts u rest e = by_test (sees kind.CloseBrace ts) refl e
     by_test true seen e = subst (Ends ts) (ok_rest tt u ts rest e) (Ends.brace (sees_sign kind.CloseBrace ts brace_inside seen))
     by_test false seen e = Ends.newline (expect_ok kind.Newline ts rest u newline_inside e)
 
-ends_is : (ts rest : List Token) → Ends ts rest → ending ts ≡ Ok (tt, rest)
+pub ends_is : (ts rest : List Token) → Ends ts rest → ending ts ≡ Ok (tt, rest)
 unfolding ending same_kind
 ends_is ts rest (Ends.newline s) =
     ap (λ b. cond b (Ok (tt, ts)) (expect kind.Newline ts)) (sign_other kind.Newline kind.CloseBrace ts rest refl s) ∙ expect_sign kind.Newline ts rest newline_self s
 ends_is ts rest (Ends.brace {us} s) = ap (λ b. cond b (Ok (tt, ts)) (expect kind.Newline ts)) (sign_sees kind.CloseBrace ts us brace_self s).0
 
 -- what follows an entry
-record Follows (ts : List Token) : Type 0 where
+pub record Follows (ts : List Token) : Type 0 where
   pub stop : Stops ts
   pub no_at : sees kind.At ts ≡ false
   pub no_question : sees kind.Question ts ≡ false
@@ -94,7 +94,7 @@ stop_brace : IsStop kind.CloseBrace
 unfolding same_kind
 stop_brace = record { no_arguments = refl; no_name = refl; no_dot = refl; no_fault = refl }
 
-ends_follow : (ts rest : List Token) → Ends ts rest → Follows ts
+pub ends_follow : (ts rest : List Token) → Ends ts rest → Follows ts
 unfolding same_kind
 ends_follow ts rest (Ends.newline s) = record {
   stop = stops kind.Newline ts rest stop_newline s;
@@ -111,13 +111,13 @@ ends_follow ts rest (Ends.brace {us} s) = record {
   some = omega (arith, sign_shrinks kind.CloseBrace ts us s);
 }
 
-ends_shrink : (ts rest : List Token) → Ends ts rest → length rest ≤ length ts
+pub ends_shrink : (ts rest : List Token) → Ends ts rest → length rest ≤ length ts
 ends_shrink ts rest (Ends.newline s) = omega (arith, sign_shrinks kind.Newline ts rest s)
 ends_shrink ts rest (Ends.brace s) = omega arith
 
 -- ---- marks
 
-mark_ok : (ts : List Token) (m : Mark) (rest : List Token) → mark_of ts ≡ Ok (m, rest) → IsMark ts m rest
+pub mark_ok : (ts : List Token) (m : Mark) (rest : List Token) → mark_of ts ≡ Ok (m, rest) → IsMark ts m rest
 unfolding mark_of
 mark_ok ts m rest e =
     elim (when_ok kind.Question ts (pure mark.Optional) (eat kind.OpenBracket >>= λ opens. cond opens (expect kind.CloseBracket >> pure mark.Many) (pure mark.One)) m rest question_inside e) [
@@ -131,7 +131,7 @@ mark_ok ts m rest e =
           ]
     ]
 
-mark_is : (ts : List Token) (m : Mark) (rest : List Token) → IsMark ts m rest → sees kind.Question rest ≡ false → sees kind.OpenBracket rest ≡ false → mark_of ts ≡ Ok (m, rest)
+pub mark_is : (ts : List Token) (m : Mark) (rest : List Token) → IsMark ts m rest → sees kind.Question rest ≡ false → sees kind.OpenBracket rest ≡ false → mark_of ts ≡ Ok (m, rest)
 unfolding mark_of same_kind
 mark_is ts m rest IsMark.one no_question no_bracket =
     when_no kind.Question ts (pure mark.Optional) (eat kind.OpenBracket >>= λ opens. cond opens (expect kind.CloseBracket >> pure mark.Many) (pure mark.One)) no_question
@@ -194,7 +194,7 @@ of_block_ok w other of other_ok ts e rest h =
       | inr no_at ↦ other_ok ts e rest no_at.1
     ]
 
-entry_ok : (w : Word) (ts : List Token) (e : Entry) (rest : List Token) → entry_of w ts ≡ Ok (e, rest) → IsEntry w ts e rest
+pub entry_ok : (w : Word) (ts : List Token) (e : Entry) (rest : List Token) → entry_of w ts ≡ Ok (e, rest) → IsEntry w ts e rest
 unfolding entry_of
 entry_ok word.Datasource ts e rest h = setting_ok word.Datasource (λ n us vs v zs r s q t. IsEntry.source_setting s q t) ts e rest h
 entry_ok word.Generator ts e rest h = setting_ok word.Generator (λ n us vs v zs r s q t. IsEntry.generator_setting s q t) ts e rest h
@@ -217,12 +217,12 @@ of_block_attribute other ts us a rest s h stop =
     when_yes kind.AtAt ts us (block_attribute >>= λ found. pure (entry.Block found (docs_of ts))) (other (docs_of ts)) at_at_self s
     ∙ ap (λ o. and_then o (λ found. pure (entry.Block found (docs_of ts)))) (block_attribute_is us a rest h stop)
 
-of_block_other : (other : List (List ℕ) → Parser Entry) (ts us : List Token) (n : Name) → Spelled kind.Name ts n us → of_block other ts ≡ other (docs_of ts) ts
+pub of_block_other : (other : List (List ℕ) → Parser Entry) (ts us : List Token) (n : Name) → Spelled kind.Name ts n us → of_block other ts ≡ other (docs_of ts) ts
 unfolding of_block same_kind
 of_block_other other ts us n s =
     when_no kind.AtAt ts (block_attribute >>= λ found. pure (entry.Block found (docs_of ts))) (other (docs_of ts)) (sign_other kind.Name kind.AtAt ts us refl (spelled_sees kind.Name ts n us s))
 
-entry_is : (w : Word) (ts : List Token) (e : Entry) (rest : List Token) → IsEntry w ts e rest → Follows rest → entry_of w ts ≡ Ok (e, rest)
+pub entry_is : (w : Word) (ts : List Token) (e : Entry) (rest : List Token) → IsEntry w ts e rest → Follows rest → entry_of w ts ≡ Ok (e, rest)
 unfolding entry_of field member same_kind
 entry_is w ts e rest (IsEntry.source_setting {us} {vs} {n} {v} s q t) f = setting_is ts us vs n v rest s q t f.stop
 entry_is w ts e rest (IsEntry.generator_setting {us} {vs} {n} {v} s q t) f = setting_is ts us vs n v rest s q t f.stop
@@ -240,7 +240,7 @@ entry_is w ts e rest (IsEntry.member {us} {n} {found} s d) f =
 entry_is w ts e rest (IsEntry.of_model {us} {a} s h) f = of_block_attribute field ts us a rest s h f.stop
 entry_is w ts e rest (IsEntry.of_enum {us} {a} s h) f = of_block_attribute member ts us a rest s h f.stop
 
-entry_begins : (l : Kind) (w : Word) (ts : List Token) (e : Entry) (rest : List Token) → same_kind kind.Name l ≡ false → same_kind kind.AtAt l ≡ false → IsEntry w ts e rest → sees l ts ≡ false
+pub entry_begins : (l : Kind) (w : Word) (ts : List Token) (e : Entry) (rest : List Token) → same_kind kind.Name l ≡ false → same_kind kind.AtAt l ≡ false → IsEntry w ts e rest → sees l ts ≡ false
 entry_begins l w ts e rest a b (IsEntry.source_setting {us} {n} s q t) = sign_other kind.Name l ts us a (spelled_sees kind.Name ts n us s)
 entry_begins l w ts e rest a b (IsEntry.generator_setting {us} {n} s q t) = sign_other kind.Name l ts us a (spelled_sees kind.Name ts n us s)
 entry_begins l w ts e rest a b (IsEntry.field {us} {n} s t h d) = sign_other kind.Name l ts us a (spelled_sees kind.Name ts n us s)
@@ -248,7 +248,7 @@ entry_begins l w ts e rest a b (IsEntry.member {us} {n} s d) = sign_other kind.N
 entry_begins l w ts e rest a b (IsEntry.of_model {us} s h) = sign_other kind.AtAt l ts us b s
 entry_begins l w ts e rest a b (IsEntry.of_enum {us} s h) = sign_other kind.AtAt l ts us b s
 
-entry_shrinks : (w : Word) (ts : List Token) (e : Entry) (rest : List Token) → IsEntry w ts e rest → length rest < length ts
+pub entry_shrinks : (w : Word) (ts : List Token) (e : Entry) (rest : List Token) → IsEntry w ts e rest → length rest < length ts
 entry_shrinks w ts e rest (IsEntry.source_setting {us} {vs} {n} {v} s q t) =
     omega (arith, sign_shrinks kind.Name ts us (spelled_sees kind.Name ts n us s), sign_shrinks kind.Equals us vs q, (term_value max_depth).shrinks vs v rest t)
 entry_shrinks w ts e rest (IsEntry.generator_setting {us} {vs} {n} {v} s q t) =

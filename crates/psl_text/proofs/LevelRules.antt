@@ -60,7 +60,7 @@ module _ (value : Parser Term) (Value : List Token → Term → List Token → T
 
   -- ---- what is derived is read
 
-  by_kind : (k : Kind) (ts us : List Token) → Sign k ts us → level value ts ≡ term_by value k ts
+  pub by_kind : (k : Kind) (ts us : List Token) → Sign k ts us → level value ts ≡ term_by value k ts
   unfolding level
   by_kind k ts us s = ap (λ l. term_by value l ts) (sign_kind k ts us s)
 

@@ -17,3 +17,12 @@ pub mod LevelRules
 pub mod AttributeRules
 pub mod EntryRules
 pub mod BlockRules
+pub mod FaultSteps
+pub mod FaultSeparate
+pub mod FaultTerms
+pub mod FaultLevels
+pub mod FaultAttributes
+pub mod FaultFields
+pub mod FaultEntries
+pub mod FaultBlocks
+pub mod FaultTexts

@@ -211,7 +211,7 @@ module _ (value : Parser Term) (Value : List Token → Term → List Token → T
       ap (λ o. and_then o (λ m. value >>= λ w. pure (roll-Argument (record { name = m; value = w })))) (named_yes ts us vs n s c)
       ∙ ap (λ o. and_then o (λ w. pure (roll-Argument (record { name = Some n; value = w })))) (is.found vs v rest h stop)
 
-  argument_begins : (ts : List Token) (a : Argument) (rest : List Token) → IsArgument Value ts a rest → sees kind.CloseParen ts ≡ false
+  pub argument_begins : (ts : List Token) (a : Argument) (rest : List Token) → IsArgument Value ts a rest → sees kind.CloseParen ts ≡ false
   unfolding same_kind
   argument_begins ts a rest (IsArgument.plain {v} h) = is.no_paren ts v rest h
   argument_begins ts a rest (IsArgument.named {us} {n} s c h) = sign_other kind.Name kind.CloseParen ts us refl (spelled_sees kind.Name ts n us s)

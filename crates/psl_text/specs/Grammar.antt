@@ -116,7 +116,7 @@ block_attribute = do
   pure (record { name = called; arguments = given })
 
 unfoldable pub attributes_from : ℕ → List Attribute → Parser (List Attribute)
-attributes_from zero found = refuse
+attributes_from zero found = pure found
 attributes_from (suc n) found = do
   more ← eat kind.At
   if more then (do next ← attribute; attributes_from n (found ++ next ∷ [])) else pure found

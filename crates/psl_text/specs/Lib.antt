@@ -5,4 +5,5 @@ pub mod Lex
 pub mod Parser
 pub mod Scan
 pub mod Spelling
+pub mod Stops
 pub mod Tokens

@@ -31,7 +31,7 @@ fn attribute_name(parser: &mut Parser<'_>) -> Result<Name, TextFault>
     }
     let second = parser.name()?;
     Ok(Name {
-        text: dotted(parser.alloc(), &first.text, &second.text)?,
+        text: dotted(parser.alloc, &first.text, &second.text)?,
         at: first.at,
     })
 }
@@ -43,7 +43,7 @@ fn arguments_if_any(parser: &mut Parser<'_>) -> Result<Items<Argument>, TextFaul
     if parser.eat(Kind::OpenParen) {
         arguments(parser, MAX_DEPTH)
     } else {
-        Ok(Items::new(parser.alloc()))
+        Ok(Items::new(parser.alloc))
     }
 }
 
@@ -74,12 +74,12 @@ pub fn block_attribute(parser: &mut Parser<'_>) -> Result<Attribute, TextFault>
 pub fn attributes(parser: &mut Parser<'_>) -> Result<Items<Attribute>, TextFault>
     ensures { Reads (spec.attributes parser.old) result parser.new }
 {
-    let mut found = Items::new(parser.alloc());
+    let mut found = Items::new(parser.alloc);
     for _turn in 0..parser.left() {
         if !parser.eat(Kind::At) {
             return Ok(found);
         }
         found.push(attribute(parser)?)?;
     }
-    Err(parser.refuse())
+    Ok(found)
 }

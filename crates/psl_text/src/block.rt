@@ -120,7 +120,7 @@ fn ending(parser: &mut Parser<'_>) -> Result<(), TextFault>
 fn entries(parser: &mut Parser<'_>, word: Word) -> Result<Items<Entry>, TextFault>
     ensures { Reads (spec.entries word parser.old) result parser.new }
 {
-    let mut found = Items::new(parser.alloc());
+    let mut found = Items::new(parser.alloc);
     for _turn in 0..parser.left() {
         if parser.eat(Kind::CloseBrace) {
             return Ok(found);
@@ -185,7 +185,7 @@ fn block(parser: &mut Parser<'_>) -> Result<Block, TextFault>
 pub fn blocks(parser: &mut Parser<'_>) -> Result<Items<Block>, TextFault>
     ensures { Reads (spec.blocks parser.old) result parser.new }
 {
-    let mut found = Items::new(parser.alloc());
+    let mut found = Items::new(parser.alloc);
     for _turn in 0..parser.left() {
         if parser.sees(Kind::End) {
             return Ok(found);

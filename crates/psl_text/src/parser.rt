@@ -13,7 +13,7 @@ use std::marker::Model;
 /// The tokens that are left.
 #[derive(Drop)]
 pub struct Parser<'a> {
-    alloc: Global,
+    pub alloc: Global,
     tokens: &'a [Token],
 }
 
@@ -185,10 +185,6 @@ impl<'a> Parser<'a> {
         ensures { Reads (spec.name self.old) result self.new }
     {
         self.spelled(Kind::Name)
-    }
-
-    pub fn alloc(&self) -> Global {
-        self.alloc
     }
 }
 

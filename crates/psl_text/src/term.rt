@@ -48,7 +48,7 @@ fn argument(parser: &mut Parser<'_>, depth: usize) -> Result<Argument, TextFault
 pub fn arguments(parser: &mut Parser<'_>, depth: usize) -> Result<Items<Argument>, TextFault>
     ensures { Reads (spec.arguments (spec.term_of depth) parser.old) result parser.new }
 {
-    let mut found = Items::new(parser.alloc());
+    let mut found = Items::new(parser.alloc);
     for _turn in 0..parser.left() {
         if parser.eat(Kind::CloseParen) {
             return Ok(found);
@@ -68,7 +68,7 @@ pub fn arguments(parser: &mut Parser<'_>, depth: usize) -> Result<Items<Argument
 fn items(parser: &mut Parser<'_>, depth: usize) -> Result<Items<Term>, TextFault>
     ensures { Reads (spec.items (spec.term_of depth) parser.old) result parser.new }
 {
-    let mut found = Items::new(parser.alloc());
+    let mut found = Items::new(parser.alloc);
     for _turn in 0..parser.left() {
         if parser.eat(Kind::CloseBracket) {
             return Ok(found);

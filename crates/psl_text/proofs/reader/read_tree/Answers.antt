@@ -1,4 +1,5 @@
-use Rattle.psl_text.proofs.BlockRules.{found_tree, only_tree, found_fault, only_fault}
+use Rattle.psl_text.proofs.BlockRules.{found_tree, only_tree}
+use Rattle.psl_text.proofs.FaultTexts.{found_fault, only_fault}
 use Rattle.psl_text.proofs.reader.read_tree.Goals as goal
 
 pub returns-clause-found : goal.returns-clause-found
