@@ -143,6 +143,9 @@ only_fault text answer e f h = subst (λ r. Answers r answer) (fault_is_found te
 
 -- ---- what holds of every text
 
+pub long_refused : (text : List ℕ) → max_length < length text → HasFault text (fault.TooLong max_length)
+long_refused text long = HasFault.too_long long
+
 pub one_fault_only : (text : List ℕ) (e f : TextFault) → HasFault text e → HasFault text f → e ≡ f
 one_fault_only text e f h k = let a = fault_is_found text e h in let b = fault_is_found text f k in cc
 

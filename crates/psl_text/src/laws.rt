@@ -1,11 +1,13 @@
 //! What holds of the grammar.
-ghost use Rattle.std.specs.Prelude.{◌≡◌, ◌⊎◌, ℕ, List};
+ghost use Rattle.std.specs.Prelude.{◌≡◌, ◌<◌, ◌⊎◌, ℕ, List, length};
 ghost use Rattle.psl_text.specs.declared.fault.TextFault.{TextFault};
+ghost use Rattle.psl_text.specs.declared.fault.TextFault.TheVariants as fault;
 ghost use Rattle.psl_text.specs.declared.token.Token.{Token};
 ghost use Rattle.psl_text.specs.declared.tree.Tree.{Tree};
 ghost use Rattle.psl_text.specs.Tokens.{HasTokens};
 ghost use Rattle.psl_text.specs.Derives.{HasTree};
 ghost use Rattle.psl_text.specs.Faults.{HasFault};
+ghost use Rattle.psl_text.specs.Grammar.{max_length};
 
 /// Every text has tokens, and no two lists of them.
 pub fn one_list_of_tokens()
@@ -31,4 +33,9 @@ pub fn never_both()
 /// Each text has a tree or a fault.
 pub fn some_answer()
     ensures { (text : List ℕ) → ((tree : Tree) × HasTree text tree) ⊎ ((e : TextFault) × HasFault text e) }
+{}
+
+/// A text that has more bytes than a text may have is refused for that.
+pub fn too_long()
+    ensures { (text : List ℕ) → max_length < length text → HasFault text (fault.TooLong max_length) }
 {}
