@@ -1,23 +1,22 @@
 -- A line's answer, by what its reading and its operation gave.
-use Rattle.std.proofs.Common.{◌≡◌, ℕ, List, [], ◌∷◌, ◌++◌, refl, sym, ap, ◌∙◌, subst, inl, inr, ◌⊎◌}
-use Rattle.std.specs.Prelude.{Result, Ok, Err, OnOk, Option, None}
+use Rattle.std.proofs.Common.{◌≡◌, ℕ, List, [], ◌∷◌, ◌++◌, refl, sym, ap, subst, inl, inr}
+use Rattle.std.specs.Prelude.{Result, Ok, Err, OnOk, None}
 use Rattle.qe_base.specs.declared.answer.Answer.{Answer}
-use Rattle.qe_base.specs.declared.answer.OpFault.{OpFault}
 use Rattle.qe_base.specs.declared.answer.OpFault.TheVariants as fault
 use Rattle.qe_base.specs.declared.answer.Rule.{Rule}
 use Rattle.qe_base.specs.declared.schema.Schema.{Schema}
 use Rattle.qe_base.specs.declared.write.Op.{Op}
 use Rattle.qe_tables.specs.Tables.{Tables}
-use Rattle.qe_plain.specs.Plain.{Done, plain}
+use Rattle.qe_plain.specs.Plain.{plain}
 use Rattle.qe_history.specs.declared.What.TheVariants as what
 use Rattle.qe_history.specs.declared.Reply.{Reply}
 use Rattle.qe_history.specs.declared.Reply.TheVariants as replies
-use Rattle.qe_history.specs.State.{State, Told, opening, Steps, done_in, reply_of}
+use Rattle.qe_history.specs.State.{opening, Steps, done_in, reply_of}
 use Rattle.qe_forms.specs.Request.{asked_of, asks, not_json, unbuilt, Asked}
 use Rattle.qe_forms.specs.Reply.{text_of, not_json_text, unbuilt_text, memory_text}
-use Rattle.qe_exchange.specs.Exchange.{Outcome, told, entered, ComesOf, entry_of, outside}
+use Rattle.qe_exchange.specs.Exchange.{told, entered, ComesOf, entry_of, outside}
 use Rattle.qe_ops.specs.Performs.{Performs}
-use Rattle.qe_cli.specs.Run.{Answers, OutcomeLeads}
+use Rattle.qe_cli.specs.Run.{Answers}
 
 pub on_ok : {T E : Type 0} {P Q : Type 0} (r : Result T E) → (P → Q) → OnOk r P → OnOk r Q
 on_ok (Ok x) f p = f p

@@ -1,9 +1,8 @@
 -- How a command ends.
-use Rattle.std.proofs.Common.{◌≡◌, ℕ, zero, suc, ◌+◌, ◌<◌, ◌≤◌, List, [], ◌∷◌, ◌++◌, Bool, true, false, ◌&&◌, cond, not, refl, sym, ap, ◌∙◌, subst, append_assoc, append-nil, Option, Some, None, length, take, drop, arith, inl, inr, ◌⊎◌, nat_lt, ◌==◌, true≢false, leb-true, leb-false}
-use Rattle.std.specs.Prelude.{IfSome, IsSomeAnd, IfOk, OnErr, OnOk, IsErr, IsErrOf, Result, Ok, Err, nat_le, if◌then◌else◌, pos, ℤ, option_and_then, option_map, nat_eq, ◌↔◌, unwrap_or, is_some, flat_map, slice_get}
+use Rattle.std.proofs.Common.{◌≡◌, ℕ, zero, suc, ◌+◌, ◌<◌, ◌≤◌, List, [], ◌∷◌, ◌++◌, Bool, true, false, refl, sym, ap, ◌∙◌, subst, append-nil, Option, Some, None, length, take, arith, inl, inr, ◌⊎◌, ◌==◌, leb-true, leb-false}
+use Rattle.std.specs.Prelude.{IfSome, IsSomeAnd, OnErr, OnOk, IsErr, Result, Ok, Err, nat_le, if◌then◌else◌, pos, ℤ, unwrap_or, flat_map, slice_get}
 use Rattle.std.proofs.Math.Seq.{take-length}
-use Rattle.std.specs.List.{starts_with}
-use Rattle.qe_base.specs.Causes.{HasCause, Rose}
+use Rattle.qe_base.specs.Causes.{Rose}
 use Rattle.qe_base.specs.Outside.{Files, file_named}
 use Rattle.qe_base.specs.declared.outside.Failed.{Failed}
 use Rattle.qe_base.specs.declared.schema.Schema.{Schema}
@@ -11,9 +10,6 @@ use Rattle.qe_base.specs.declared.value.Row.{Row}
 use Rattle.qe_tables.specs.Tables.{Tables, no_rows}
 use Rattle.qe_mem.specs.Kept.{Kept}
 use Rattle.qe_ops.specs.Performs.{tables_of}
-use Rattle.std.proofs.lemmas.Bool.Decides.{nat_tests}
-use Rattle.qe_base.specs.declared.schema.Table.{Table}
-use Rattle.psl_schema.specs.Plain.{plain_of, body_of, heading, model_of, lines as text_lines}
 use Rattle.qe_exchange.specs.Lines.{lines_of}
 use Rattle.qe_exchange.specs.Exchange.{Exchanges, Outcome, told, entered, entered_of, history_of}
 use Rattle.qe_history.specs.declared.Entry.{Entry}
@@ -24,7 +20,18 @@ use Rattle.qe_cli.specs.declared.End.{End}
 use Rattle.qe_cli.specs.declared.End.TheVariants as end
 use Rattle.qe_cli.specs.declared.LinesEnd.{LinesEnd}
 use Rattle.qe_cli.specs.declared.LinesEnd.TheVariants as lines
-use Rattle.qe_cli.specs.Command.{schema_word, line_of, status_of, end_from, RunEnds, Comes, Prints, FileHolds, NamesSchema, HasSchemaFile, Untouched, AnswersAll}
+use Rattle.psl_text.specs.declared.fault.TextFault.{TextFault}
+use Rattle.psl_text.specs.declared.fault.TextFault.TheVariants as fault
+use Rattle.psl_text.specs.Faults.{HasFault}
+use Rattle.psl_text.specs.Grammar.{max_length}
+use Rattle.psl_text.proofs.FaultTexts.{one_fault_only, tree_or_fault_only, long_refused}
+use Rattle.qe_cli.specs.declared.refusal.Refusal.{Refusal}
+use Rattle.qe_cli.specs.declared.refusal.Refusal.TheVariants as refusal
+use Rattle.qe_cli.specs.declared.words.Command.{Command}
+use Rattle.qe_cli.specs.declared.words.Command.TheVariants as command
+use Rattle.qe_cli.specs.Asked.{command_of, Asks}
+use Rattle.qe_cli.specs.Command.{line_of, status_of, end_from, RunComes, SchemaComes, WithSchema, Comes, Prints, FileHolds, NamesSchema, Untouched, AnswersAll, SaysOk, SaysWhy}
+use Rattle.qe_cli.specs.Refused.{HasSchema, Refuses, Unread, refusal_line}
 use Rattle.qe_cli.specs.Ends.{EndsRun, Finishes, Halts, longest_input}
 use Rattle.qe_cli.specs.Kept.{Appends, AppendsPart}
 use Rattle.qe_cli.proofs.Reading.{reading_none, reading_halts}
@@ -50,12 +57,21 @@ none_kept kept column is =
 pub halts_at_once : (schema : Schema) (tables : Tables) (left taken : Option (List ℕ)) → Halts false schema tables left left taken taken
 halts_at_once schema tables left taken = reading_halts schema [] (longest_input + 1) tables tables left left taken taken (reading_none schema [] tables left taken refl)
 
-pub run_short : (schema : Schema) (left taken : Option (List ℕ)) → RunEnds end.Memory schema left left taken taken
-run_short schema left taken = (lines.Memory, no_rows, refl, halts_at_once schema no_rows left taken)
+pub run_short : (schema : Schema) (left taken : Option (List ℕ)) → RunComes end.Memory schema left left taken taken
+run_short schema left taken = halts_at_once schema no_rows left taken
+
+run_at : (lines : LinesEnd) (schema : Schema) (after : Tables) (before left taken now : Option (List ℕ)) → EndsRun lines schema no_rows after before left taken now → RunComes (end_from lines) schema before left taken now
+run_at lines.Done schema after before left taken now ends = (after, ends)
+run_at lines.LongInput schema after before left taken now ends = (ends.0, ends.1)
+run_at lines.ReadFault schema after before left taken now ends = ends
+run_at lines.WriteFault schema after before left taken now ends = ends
+run_at lines.Memory schema after before left taken now ends = ends
 
 pub run_ended : (result : End) (lines : LinesEnd) (schema : Schema) (kept : Kept) (after : Tables) (column : ℕ) (before left taken now : Option (List ℕ)) → kept ≡ record { column = column; rows = []; last = pos 0 } → result ≡ end_from lines → EndsRun lines schema (tables_of kept) after before left taken now
-    → RunEnds result schema before left taken now
-run_ended result lines schema kept after column before left taken now kept_is is ends = (lines, after, is, subst (λ t. EndsRun lines schema t after before left taken now) (none_kept kept column kept_is) ends)
+    → RunComes result schema before left taken now
+run_ended result lines schema kept after column before left taken now kept_is is ends =
+    subst (λ e. RunComes e schema before left taken now) (sym is)
+    (run_at lines schema after before left taken now (subst (λ t. EndsRun lines schema t after before left taken now) (none_kept kept column kept_is) ends))
 
 -- ---- the schema's text
 
@@ -70,57 +86,111 @@ take_long zero xs long = refl
 take_long (suc n) [] long = absurd (omega arith)
 take_long (suc n) (x ∷ xs) long = ap suc (take_long n xs (omega arith))
 
--- a test of at most so many bytes, at the first n + 1 of them
-test_at : (n : ℕ) (xs : List ℕ) (b : Bool) → nat_le (length xs) n ≡ b → (test : List ℕ → Bool) (F : List ℕ → Option (List ℕ)) → (if nat_le (length (take (n + 1) xs)) n && test (take (n + 1) xs) then F (take (n + 1) xs) else None) ≡ (if nat_le (length xs) n && test xs then F xs else None)
-test_at n xs true is test F = ap (λ l. if nat_le (length l) n && test l then F l else None) (take_whole (n + 1) xs (omega (arith, leb-true _ _ is)))
-test_at n xs false is test F =
-    ap (λ k. if nat_le k n && test (take (n + 1) xs) then F (take (n + 1) xs) else None) (take_long (n + 1) xs (omega (arith, leb-false _ _ is)))
-    ∙ ap (λ b. if b && test (take (n + 1) xs) then F (take (n + 1) xs) else None) (too_many n) ∙ sym (ap (λ b. if b && test xs then F xs else None) is)
+-- the first n + 1 bytes of a text are all of it, or both have more than n
+front : (n : ℕ) (text : List ℕ) → (take (n + 1) text ≡ text) ⊎ ((n < length text) × (n < length (take (n + 1) text)))
+front n text = by_length (nat_le (length text) n) refl
   where
-    too_many : (n : ℕ) → nat_le (n + 1) n ≡ false
-    too_many n = grind (arith, nat_tests)
+    by_length : (b : Bool) → nat_le (length text) n ≡ b → (take (n + 1) text ≡ text) ⊎ ((n < length text) × (n < length (take (n + 1) text)))
+    by_length true short = inl (take_whole (n + 1) text (omega (arith, leb-true _ _ short)))
+    by_length false long = inr (omega (arith, leb-false _ _ long), omega (arith, leb-false _ _ long, take_long (n + 1) text))
 
--- what is fetched of a text is of the plain form just where the text is
-plain_take : (text : List ℕ) → plain_of (take (1048576 + 1) text) ≡ plain_of text
-plain_take text = ap (option_and_then (λ body. option_map (λ table. table ∷ []) (model_of (text_lines body)))) (test_at 1048576 text (nat_le (length text) 1048576) refl (λ l. starts_with nat_eq l heading) (λ l. Some (drop (length heading) l)))
-
-fetched : (text content : List ℕ) (said : Option (List Table)) → plain_of text ≡ said → text ≡ take (1048576 + 1) content → plain_of content ≡ said
-fetched text content said is text_is = sym (plain_take content) ∙ ap plain_of (sym text_is) ∙ is
-
-pub file_holds : (files : Option Files) (name text : List ℕ) (said : Option (List Table)) → plain_of text ≡ said → IfSome files (λ all. IsSomeAnd (file_named name all) (λ content. text ≡ take (1048576 + 1) content)) → FileHolds files name (λ content. plain_of content ≡ said)
-file_holds None name text said is bytes = tt
-file_holds (Some all) name text said is bytes = found (file_named name all) bytes
+-- What is told of the front of a text holds of the text, where of texts of more than n bytes it
+-- is all the same.
+of_front : (n : ℕ) (text : List ℕ) (P : List ℕ → Type 0) → ((a b : List ℕ) → n < length a → n < length b → P a → P b) → P (take (n + 1) text) → P text
+of_front n text P alike here = from (front n text)
   where
-    found : (file : Option (List ℕ)) → IsSomeAnd file (λ content. text ≡ take (1048576 + 1) content) → IsSomeAnd file (λ content. plain_of content ≡ said)
+    from : (take (n + 1) text ≡ text) ⊎ ((n < length text) × (n < length (take (n + 1) text))) → P text
+    from (inl same) = subst P same here
+    from (inr long) = alike (take (n + 1) text) text long.1 long.0 here
+
+schema_alike : (schema : Schema) (a b : List ℕ) → max_length < length a → max_length < length b → HasSchema a schema → HasSchema b schema
+schema_alike schema a b long other has = absurd (tree_or_fault_only a has.0 (fault.TooLong max_length) has.1 (long_refused a long))
+
+fault_alike : (e : TextFault) (a b : List ℕ) → max_length < length a → max_length < length b → HasFault a e → HasFault b e
+fault_alike e a b long other has = subst (HasFault b) (one_fault_only a (fault.TooLong max_length) e (long_refused a long) has) (long_refused b other)
+
+refusal_alike : (why : Refusal) (a b : List ℕ) → max_length < length a → max_length < length b → Refuses why a → Refuses why b
+refusal_alike (refusal.NotUtf8 at) a b long other has = fault_alike (fault.NotUtf8 at) a b long other has
+refusal_alike (refusal.BadCharacter at) a b long other has = fault_alike (fault.BadCharacter at) a b long other has
+refusal_alike (refusal.Unclosed at) a b long other has = fault_alike (fault.Unclosed at) a b long other has
+refusal_alike (refusal.Unexpected at) a b long other has = fault_alike (fault.Unexpected at) a b long other has
+refusal_alike (refusal.TooLong at) a b long other has = fault_alike (fault.TooLong at) a b long other has
+refusal_alike refusal.Unbuilt a b long other has = absurd (tree_or_fault_only a has.0 (fault.TooLong max_length) has.1 (long_refused a long))
+
+-- what is told of a file's front holds of the file
+file_holds : (n : ℕ) (files : Option Files) (name text : List ℕ) (P : List ℕ → Type 0) → ((a b : List ℕ) → n < length a → n < length b → P a → P b) → P text → IfSome files (λ all. IsSomeAnd (file_named name all) (λ content. text ≡ take (n + 1) content)) → FileHolds files name P
+file_holds n None name text P alike here bytes = tt
+file_holds n (Some all) name text P alike here bytes = found (file_named name all) bytes
+  where
+    found : (file : Option (List ℕ)) → IsSomeAnd file (λ content. text ≡ take (n + 1) content) → IsSomeAnd file P
     found None bytes = bytes
-    found (Some content) bytes = fetched text content said is bytes
+    found (Some content) bytes = of_front n content P alike (subst P bytes here)
 
-run_at : (lines : LinesEnd) (words : List (List ℕ)) (files : Option Files) (name : List ℕ) (schema : Schema) (after : Tables) (before left taken now : Option (List ℕ)) → schema_word words ≡ Some name → NamesSchema words files schema → EndsRun lines schema no_rows after before left taken now
-    → Comes (end_from lines) words files before left taken now
-run_at lines.Done words files name schema after before left taken now word names ends = (schema, after, names, ends)
-run_at lines.LongInput words files name schema after before left taken now word names ends = (schema, names, ends.0, ends.1)
-run_at lines.ReadFault words files name schema after before left taken now word names ends = (schema, names, ends)
-run_at lines.WriteFault words files name schema after before left taken now word names ends = (schema, names, ends)
-run_at lines.Memory words files name schema after before left taken now word names ends = (name, word, inr (schema, names, ends))
+-- ---- how a command ends behind its words
 
--- a run over the schema that the words name
-pub comes_run : (result : End) (words : List (List ℕ)) (files : Option Files) (name text : List ℕ) (schema : Schema) (before left taken now : Option (List ℕ)) → schema_word words ≡ Some name → IfSome files (λ all. IsSomeAnd (file_named name all) (λ content. text ≡ take (1048576 + 1) content))
-    → plain_of text ≡ Some schema.tables → RunEnds result schema before left taken now → Comes result words files before left taken now
-comes_run result words files name text schema before left taken now word bytes is run =
-    subst (λ e. Comes e words files before left taken now) (sym run.2)
-    (run_at run.0 words files name schema run.1 before left taken now word (name, word, file_holds files name text (Some schema.tables) is bytes) run.3)
+with_schema : (e : End) (words : List (List ℕ)) (files : Option Files) (before left taken now : Option (List ℕ)) (wanted : Command) (schema : Schema) → SchemaComes wanted e schema before left taken now → WithSchema e words files before left taken now → Comes e words files before left taken now
+with_schema end.Done words files before left taken now wanted schema c whole = whole
+with_schema end.Usage words files before left taken now wanted schema c whole = absurd (no_usage wanted c)
+  where
+    no_usage : (wanted : Command) → SchemaComes wanted end.Usage schema before left taken now → ⊥
+    no_usage command.Run c = c
+    no_usage command.Validate c = c
+with_schema (end.Refused why) words files before left taken now wanted schema c whole = absurd (no_refusal wanted c)
+  where
+    no_refusal : (wanted : Command) → SchemaComes wanted (end.Refused why) schema before left taken now → ⊥
+    no_refusal command.Run c = c
+    no_refusal command.Validate c = c
+with_schema end.FetchFault words files before left taken now wanted schema c whole = absurd (no_fetch wanted c)
+  where
+    no_fetch : (wanted : Command) → SchemaComes wanted end.FetchFault schema before left taken now → ⊥
+    no_fetch command.Run c = c
+    no_fetch command.Validate c = c
+with_schema end.ReadFault words files before left taken now wanted schema c whole = whole
+with_schema end.WriteFault words files before left taken now wanted schema c whole = whole
+with_schema end.Memory words files before left taken now wanted schema c whole = (whole.0, whole.2.0, whole.2.1, inr whole)
+with_schema end.LongInput words files before left taken now wanted schema c whole = whole
+
+-- a command was carried out over the schema of the text that was fetched
+pub obeyed : (e : End) (words : List (List ℕ)) (files : Option Files) (name text : List ℕ) (wanted : Command) (schema : Schema) (before left taken now : Option (List ℕ)) → command_of words ≡ Some (wanted, name) → IfSome files (λ all. IsSomeAnd (file_named name all) (λ content. text ≡ take (max_length + 1) content))
+    → HasSchema text schema → SchemaComes wanted e schema before left taken now → Comes e words files before left taken now
+obeyed e words files name text wanted schema before left taken now asked bytes has c =
+    with_schema e words files before left taken now wanted schema c (wanted, schema, (name, asked, file_holds max_length files name text (λ t. HasSchema t schema) (schema_alike schema) has bytes), c)
+
+-- the text that was fetched gave no schema
+pub unread : (e : End) (words : List (List ℕ)) (files : Option Files) (name text : List ℕ) (wanted : Command) (before left taken now : Option (List ℕ)) → command_of words ≡ Some (wanted, name) → IfSome files (λ all. IsSomeAnd (file_named name all) (λ content. text ≡ take (max_length + 1) content))
+    → Unread e text → Untouched before left taken now → Comes e words files before left taken now
+unread end.Done words files name text wanted before left taken now asked bytes why same = absurd why
+unread end.Usage words files name text wanted before left taken now asked bytes why same = absurd why
+unread (end.Refused refusal) words files name text wanted before left taken now asked bytes why same =
+    ((wanted, name, asked, file_holds max_length files name text (Refuses refusal) (refusal_alike refusal) why bytes), same)
+unread end.FetchFault words files name text wanted before left taken now asked bytes why same = absurd why
+unread end.ReadFault words files name text wanted before left taken now asked bytes why same = absurd why
+unread end.WriteFault words files name text wanted before left taken now asked bytes why same = absurd why
+unread end.Memory words files name text wanted before left taken now asked bytes why same = (wanted, name, asked, inl same)
+unread end.LongInput words files name text wanted before left taken now asked bytes why same = absurd why
 
 -- ---- what the status says
 
 is_done : (e : End) → status_of e ≡ 0 → e ≡ end.Done
 is_done end.Done is = refl
 is_done end.Usage is = absurd (omega arith)
-is_done end.Unbuilt is = absurd (omega arith)
+is_done (end.Refused why) is = absurd (omega arith)
 is_done end.FetchFault is = absurd (omega arith)
 is_done end.ReadFault is = absurd (omega arith)
 is_done end.WriteFault is = absurd (omega arith)
 is_done end.Memory is = absurd (omega arith)
 is_done end.LongInput is = absurd (omega arith)
+
+-- a status of 3 is that of a refusal
+pub says_why : (status : ℕ) (e : End) (words : List (List ℕ)) (files : Option Files) (before left taken mid now : Option (List ℕ)) (rose : Type 0) → status ≡ status_of e → Comes e words files before left taken mid → Prints (line_of e) rose mid now → status ≡ 3 → SaysWhy words files rose before left taken now
+says_why status end.Done words files before left taken mid now rose is comes prints three = absurd (omega (arith, is, three))
+says_why status end.Usage words files before left taken mid now rose is comes prints three = absurd (omega (arith, is, three))
+says_why status (end.Refused why) words files before left taken mid now rose is comes prints three = (why, comes.0, comes.1.0, subst (λ m. Prints (refusal_line why) rose m now) comes.1.1 prints)
+says_why status end.FetchFault words files before left taken mid now rose is comes prints three = absurd (omega (arith, is, three))
+says_why status end.ReadFault words files before left taken mid now rose is comes prints three = absurd (omega (arith, is, three))
+says_why status end.WriteFault words files before left taken mid now rose is comes prints three = absurd (omega (arith, is, three))
+says_why status end.Memory words files before left taken mid now rose is comes prints three = absurd (omega (arith, is, three))
+says_why status end.LongInput words files before left taken mid now rose is comes prints three = absurd (omega (arith, is, three))
 
 -- ---- an exchange from the runs of lines
 
@@ -179,9 +249,56 @@ no_line : (count : ℕ) → take count (line_of end.Done) ≡ []
 no_line zero = refl
 no_line (suc count) = refl
 
-pub all_answered : (status : ℕ) (e : End) (words : List (List ℕ)) (files : Option Files) (before left taken mid now : Option (List ℕ)) (rose : Type 0) → status ≡ status_of e → Comes e words files before left taken mid → Prints (line_of e) rose mid now → status ≡ 0 → AnswersAll words files before left taken now
-all_answered status e words files before left taken mid now rose is comes prints none =
+pub asked_once : (words : List (List ℕ)) (a b : Command) (name : List ℕ) → command_of words ≡ Some (a, name) → Asks b words → a ≡ b
+asked_once words a b name is asks = ap (λ (o : Option (Command × List ℕ)). (unwrap_or o (a, name)).0) (sym is ∙ asks.1)
+
+-- the command of the words was done over a schema that they name
+record Did (asked : Command) (words : List (List ℕ)) (files : Option Files) (before left taken mid now : Option (List ℕ)) : Type 0 where
+  pub schema : Schema
+  pub names : NamesSchema asked words files schema
+  pub comes : SchemaComes asked end.Done schema before left taken mid
+  pub last : Appends mid now []
+
+did : (asked : Command) (status : ℕ) (e : End) (words : List (List ℕ)) (files : Option Files) (before left taken mid now : Option (List ℕ)) (rose : Type 0) → status ≡ status_of e → Comes e words files before left taken mid → Prints (line_of e) rose mid now → Asks asked words → status ≡ 0 → Did asked words files before left taken mid now
+did asked status e words files before left taken mid now rose is comes prints asks none =
     let done = is_done e (sym is ∙ none) in
     let c = subst (λ x. Comes x words files before left taken mid) done comes in
     let p = subst (λ x. Prints (line_of x) rose mid now) done prints in
-    (c.0, c.2, answered c.0 c.1 before left taken mid now c.3 (subst (Appends mid now) (no_line p.0) p.1))
+    let same = asked_once words c.0 asked c.2.0 c.2.1 asks in
+    record {
+      schema = c.1;
+      names = subst (λ k. NamesSchema k words files c.1) same c.2;
+      comes = subst (λ k. SchemaComes k end.Done c.1 before left taken mid) same c.3;
+      last = subst (Appends mid now) (no_line p.0) p.1;
+    }
+
+pub all_answered : (status : ℕ) (e : End) (words : List (List ℕ)) (files : Option Files) (before left taken mid now : Option (List ℕ)) (rose : Type 0) → status ≡ status_of e → Comes e words files before left taken mid → Prints (line_of e) rose mid now → Asks command.Run words → status ≡ 0 → AnswersAll words files before left taken now
+all_answered status e words files before left taken mid now rose is comes prints asks none =
+    let d = did command.Run status e words files before left taken mid now rose is comes prints asks none in
+    (d.schema, d.names, answered d.schema d.comes.0 before left taken mid now d.comes.1 d.last)
+
+appended : (taken mid now : Option (List ℕ)) (bytes : List ℕ) → Appends taken mid bytes → Appends mid now [] → Appends taken now bytes
+appended taken mid None bytes first last = tt
+appended taken None (Some written) bytes first last = absurd last
+appended None (Some between) (Some written) bytes first last = first
+appended (Some old) (Some between) (Some written) bytes first last = last ∙ append-nil between ∙ first
+
+pub said_ok : (status : ℕ) (e : End) (words : List (List ℕ)) (files : Option Files) (before left taken mid now : Option (List ℕ)) (rose : Type 0) → status ≡ status_of e → Comes e words files before left taken mid → Prints (line_of e) rose mid now → Asks command.Validate words → status ≡ 0 → SaysOk words files before left taken now
+said_ok status e words files before left taken mid now rose is comes prints asks none =
+    let d = did command.Validate status e words files before left taken mid now rose is comes prints asks none in
+    (d.schema, d.names, d.comes.0, appended taken mid now _ d.comes.1 d.last)
+
+-- the end that was printed is how the command ended, or want of memory
+pub printed_end : (printed e : End) (words : List (List ℕ)) (files : Option Files) (before left taken now : Option (List ℕ)) → (printed ≡ e) ⊎ ((why : Refusal) × (e ≡ end.Refused why) × (printed ≡ end.Memory)) → Comes e words files before left taken now → Comes printed words files before left taken now
+printed_end printed e words files before left taken now (inl same) comes = subst (λ x. Comes x words files before left taken now) (sym same) comes
+printed_end printed e words files before left taken now (inr other) comes =
+    let c = subst (λ x. Comes x words files before left taken now) other.1 comes in
+    subst (λ x. Comes x words files before left taken now) (sym other.2) (c.0.0, c.0.1, c.0.2, inl c.1)
+
+-- a write that failed after this count failed after a smaller one
+pub prints_over : (line : List ℕ) (first between last : ℕ) (taken now : Option (List ℕ)) → first ≤ between → Prints line (Rose between last) taken now → Prints line (Rose first last) taken now
+prints_over line first between last taken now later prints = (prints.0, prints.1, over prints.2)
+  where
+    over : (length line ≤ prints.0) ⊎ Rose between last → (length line ≤ prints.0) ⊎ Rose first last
+    over (inl whole) = inl whole
+    over (inr rose) = inr (omega (arith, rose, later))

@@ -1,17 +1,15 @@
 -- Reading an input piece by piece.
-use Rattle.std.proofs.Common.{◌≡◌, ℕ, zero, suc, ◌+◌, ◌-◌, ◌<◌, ◌≤◌, List, [], ◌∷◌, ◌++◌, Bool, true, false, refl, sym, ap, ◌∙◌, subst, append_assoc, append-nil, Option, Some, None, length, take, drop, arith, length-append, inl, inr, ◌⊎◌}
+use Rattle.std.proofs.Common.{◌≡◌, ℕ, zero, suc, ◌+◌, ◌<◌, ◌≤◌, List, [], ◌∷◌, ◌++◌, Bool, true, false, refl, sym, ap, ◌∙◌, subst, append_assoc, append-nil, Option, Some, None, length, take, drop, arith, length-append}
 use Rattle.std.specs.Prelude.{IfSome, IsSomeAnd, OnOk, Result, Ok, Err, ◌↔◌}
 use Rattle.std.proofs.lemmas.List.{take-append-drop}
 use Rattle.qe_base.specs.declared.schema.Schema.{Schema}
 use Rattle.qe_tables.specs.Tables.{Tables}
 use Rattle.qe_exchange.specs.Lines.{is_blank, lines_of}
-use Rattle.qe_cli.specs.declared.LinesEnd.{LinesEnd}
-use Rattle.qe_cli.specs.declared.LinesEnd.TheVariants as ends
 use Rattle.qe_cli.specs.declared.Stop.{Stop}
 use Rattle.qe_cli.specs.declared.Stop.TheVariants as stop
-use Rattle.qe_cli.specs.Ends.{Takes, Stops, Halts, Finishes, PartOf, EndsRun, cuts, end_by, end_behind, longest_input}
-use Rattle.qe_cli.specs.Kept.{Appends, AppendsPart}
-use Rattle.qe_cli.specs.Run.{Answers, LineTaken, LineStopped, Runs, has_newline}
+use Rattle.qe_cli.specs.Ends.{Takes, Stops, Halts, Finishes, EndsRun, cuts, end_by, end_behind, longest_input}
+use Rattle.qe_cli.specs.Kept.{Appends}
+use Rattle.qe_cli.specs.Run.{LineTaken, LineStopped, Runs, has_newline}
 use Rattle.qe_cli.proofs.Runs.{lines_last, unless_blank, runs_none, runs_more, runs_one}
 use Rattle.qe_cli.proofs.Wrote.{appends_more, appends_nothing}
 

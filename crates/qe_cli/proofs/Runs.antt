@@ -1,13 +1,10 @@
 -- Lines cut from a stream, and what comes of them one after another.
-use Rattle.std.proofs.Common.{◌≡◌, ℕ, List, [], ◌∷◌, ◌++◌, Bool, true, false, cond, not, ◌||◌, ◌==◌, if◌then◌else◌, filter, refl, sym, ap, ◌∙◌, subst, append_assoc, append-nil, true≢false}
-use Rattle.std.specs.Prelude.{flat_map}
-use Rattle.std.specs.List.{list_any}
+use Rattle.std.proofs.Common.{◌≡◌, ℕ, List, [], ◌∷◌, ◌++◌, Bool, true, false, cond, not, ◌||◌, if◌then◌else◌, filter, refl, sym, ap, ◌∙◌, subst, append_assoc, append-nil, true≢false}
 use Rattle.qe_base.specs.declared.schema.Schema.{Schema}
 use Rattle.qe_tables.specs.Tables.{Tables}
-use Rattle.qe_exchange.specs.Exchange.{Outcome, ComesOf, ComeOf, outcome_text, bytes_of}
+use Rattle.qe_exchange.specs.Exchange.{Outcome, ComeOf, outcome_text, bytes_of}
 use Rattle.qe_exchange.specs.Lines.{cut, ahead, is_blank, lines_of}
-use Rattle.qe_forms.specs.Request.{asked_of}
-use Rattle.qe_cli.specs.Run.{Answers, Runs, OutcomeLeads, OutcomesLead, has_newline}
+use Rattle.qe_cli.specs.Run.{Answers, Runs, OutcomesLead, has_newline}
 
 pub or_left : (a b : Bool) → a || b ≡ false → a ≡ false
 or_left true b is = is

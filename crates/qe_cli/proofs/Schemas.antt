@@ -1,7 +1,6 @@
 -- The id of an accepted schema's model, and the text that is fetched for it.
-use Rattle.std.proofs.Common.{◌≡◌, ℕ, suc, ◌+◌, ◌<◌, ◌≤◌, List, [], ◌∷◌, length, take, Option, Some, None, Bool, true, false, ◌&&◌, cond, refl, sym, ap, ◌∙◌, subst, true≢false, arith, unwrap_or, leb-true, nat_lt, drop}
-use Rattle.std.specs.Prelude.{slice_get, nat_le, is_some, if◌then◌else◌}
-use Rattle.std.proofs.Math.Seq.{take-length}
+use Rattle.std.proofs.Common.{◌≡◌, ℕ, List, [], ◌∷◌, length, Some, None, true, refl, sym, ap, ◌∙◌, true≢false, unwrap_or}
+use Rattle.std.specs.Prelude.{slice_get, is_some}
 use Rattle.qe_base.specs.Accepted.{is_plain_model, is_lone_id, is_lone_column}
 use Rattle.qe_base.specs.declared.schema.Schema.{Schema}
 use Rattle.qe_base.specs.declared.schema.Table.{Table}

@@ -1,14 +1,14 @@
 -- Taking a line more of a stream.
-use Rattle.std.proofs.Common.{◌≡◌, ℕ, List, [], ◌∷◌, ◌++◌, Bool, true, false, refl, sym, ap, ◌∙◌, subst, append_assoc, append-nil, Option, length, take, ◌||◌}
+use Rattle.std.proofs.Common.{◌≡◌, ℕ, List, [], ◌∷◌, ◌++◌, Bool, true, false, refl, sym, ap, ◌∙◌, subst, append_assoc, append-nil, Option, take, ◌||◌}
 use Rattle.qe_base.specs.declared.schema.Schema.{Schema}
 use Rattle.qe_tables.specs.Tables.{Tables}
 use Rattle.qe_exchange.specs.Lines.{is_blank, lines_of}
 use Rattle.std.specs.Prelude.{Result, Ok, Err, IfErr, IsErrAnd}
 use Rattle.qe_cli.specs.declared.Stop.{Stop}
 use Rattle.qe_cli.specs.declared.Stop.TheVariants as stop
-use Rattle.qe_cli.specs.Ends.{Takes, Stops, PartOf, cuts}
-use Rattle.qe_cli.specs.Kept.{Appends, AppendsPart}
-use Rattle.qe_cli.specs.Run.{Answers, LineTaken, LineStopped, Runs, has_newline}
+use Rattle.qe_cli.specs.Ends.{Takes, Stops, cuts}
+use Rattle.qe_cli.specs.Kept.{Appends}
+use Rattle.qe_cli.specs.Run.{LineTaken, LineStopped, Runs, has_newline}
 use Rattle.qe_cli.proofs.Runs.{or_left, or_right, lines_line, unless_blank, runs_none, runs_more, runs_one}
 use Rattle.qe_cli.proofs.Wrote.{appends_more, appends_nothing}
 

@@ -1,6 +1,6 @@
 -- Writing a piece, part by part.
-use Rattle.std.proofs.Common.{◌≡◌, ℕ, ◌+◌, ◌-◌, ◌<◌, ◌≤◌, List, [], ◌∷◌, ◌++◌, length, take, drop, refl, sym, ap, ◌∙◌, subst, Option, Some, None, arith, append_assoc, length-append, append-nil}
-use Rattle.std.specs.Prelude.{IfSome, IsSomeAnd, Result, Ok, Err, OnErr}
+use Rattle.std.proofs.Common.{◌≡◌, ℕ, ◌<◌, List, [], ◌++◌, length, take, drop, sym, ap, ◌∙◌, subst, Option, Some, None, arith, append_assoc, length-append, append-nil}
+use Rattle.std.specs.Prelude.{Result, Ok, Err, OnErr}
 use Rattle.std.proofs.Math.Seq.{take-append_seam}
 use Rattle.std.proofs.lemmas.List.{take-append-drop}
 use Rattle.qe_cli.specs.Kept.{Appends, AppendsPart}

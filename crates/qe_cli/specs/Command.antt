@@ -1,10 +1,8 @@
--- What a command does: its words, how it ends, and what it has written.
-use Rattle.std.specs.Prelude.{◌≡◌, ◌⊎◌, ℕ, ◌<◌, ◌≤◌, List, [], ◌∷◌, ◌++◌, length, take, Bool, true, false, ◌&&◌, ◌==◌, not, if◌then◌else◌, Option, Some, None, IfSome, IsSomeAnd, bytes_eq, codes}
-use Rattle.qe_base.specs.Causes.{Rose}
+-- What a command does: how it ends, and what it has written.
+use Rattle.std.specs.Prelude.{◌≡◌, ◌⊎◌, ℕ, ◌<◌, ◌≤◌, List, [], ◌++◌, length, take, true, false, Option, Some, None, IfSome, IsSomeAnd, codes}
 use Rattle.qe_base.specs.Outside.{Files, file_named}
 use Rattle.qe_base.specs.declared.schema.Schema.{Schema}
 use Rattle.qe_tables.specs.Tables.{Tables, no_rows}
-use Rattle.psl_schema.specs.Plain.{plain_of}
 use Rattle.qe_exchange.specs.Exchange.{Exchanges}
 use Rattle.qe_exchange.specs.Lines.{lines_of}
 use Rattle.qe_history.specs.State.{State, opening}
@@ -12,34 +10,30 @@ use Rattle.qe_cli.specs.declared.End.{End}
 use Rattle.qe_cli.specs.declared.End.TheVariants as end
 use Rattle.qe_cli.specs.declared.LinesEnd.{LinesEnd}
 use Rattle.qe_cli.specs.declared.LinesEnd.TheVariants as lines
-use Rattle.qe_cli.specs.Ends.{EndsRun, Finishes, Halts, longest_input}
-use Rattle.qe_cli.specs.Kept.{Appends}
-
-abbrev pub begins_with_dash : List ℕ → Bool
-begins_with_dash [] = false
-begins_with_dash (byte ∷ bytes) = byte == 45
-
--- The name of the schema's file, where the words are a program's name, `run` and a word that
--- doesn't begin with a dash.
-abbrev pub schema_word : List (List ℕ) → Option (List ℕ)
-schema_word (program ∷ command ∷ schema ∷ []) = if bytes_eq command (codes "run") && not (begins_with_dash schema) then Some schema else None
-schema_word words = None
+use Rattle.qe_cli.specs.declared.refusal.Refusal.{Refusal}
+use Rattle.qe_cli.specs.declared.words.Command.{Command}
+use Rattle.qe_cli.specs.declared.words.Command.TheVariants as command
+use Rattle.qe_cli.specs.Asked.{command_of}
+use Rattle.qe_cli.specs.Ends.{Finishes, Halts, longest_input}
+use Rattle.qe_cli.specs.Kept.{Appends, AppendsPart}
+use Rattle.qe_cli.specs.Refused.{HasSchema, Refuses, refusal_line}
 
 -- the line that is printed at an end
 abbrev pub line_of : End → List ℕ
 line_of end.Done = []
 line_of end.Usage = codes "usage\n"
-line_of end.Unbuilt = codes "P1012 unbuilt\n"
+line_of (end.Refused refusal) = refusal_line refusal
 line_of end.FetchFault = codes "fault fetch\n"
 line_of end.ReadFault = codes "fault read\n"
 line_of end.WriteFault = []
 line_of end.Memory = codes "memory\n"
 line_of end.LongInput = codes "limit input\n"
 
+-- the status of the program at an end
 abbrev pub status_of : End → ℕ
 status_of end.Done = 0
 status_of end.Usage = 2
-status_of end.Unbuilt = 3
+status_of (end.Refused refusal) = 3
 status_of end.FetchFault = 4
 status_of end.ReadFault = 4
 status_of end.WriteFault = 4
@@ -50,13 +44,21 @@ status_of end.LongInput = 7
 abbrev pub FileHolds : Option Files → List ℕ → (List ℕ → Type 0) → Type 0
 FileHolds files name P = IfSome files (λ all. IsSomeAnd (file_named name all) P)
 
--- the file that the words name holds this schema, where the host tells
-abbrev pub NamesSchema : List (List ℕ) → Option Files → Schema → Type 0
-NamesSchema words files schema = (name : List ℕ) × (schema_word words ≡ Some name) × FileHolds files name (λ text. plain_of text ≡ Some schema.tables)
+-- the words are this command, and the file that they name holds this schema, where the host tells
+abbrev pub NamesSchema : Command → List (List ℕ) → Option Files → Schema → Type 0
+NamesSchema command words files schema = (name : List ℕ) × (command_of words ≡ Some (command, name)) × FileHolds files name (λ text. HasSchema text schema)
+
+-- the file that the words name holds a text that is refused so, where the host tells
+abbrev pub NamesRefused : Refusal → List (List ℕ) → Option Files → Type 0
+NamesRefused refusal words files = (command : Command) × (name : List ℕ) × (command_of words ≡ Some (command, name)) × FileHolds files name (Refuses refusal)
 
 -- the host tells its files, and the one that the words name is there
 abbrev pub HasSchemaFile : List (List ℕ) → Option Files → Type 0
-HasSchemaFile words files = (all : Files) × (name : List ℕ) × (text : List ℕ) × (files ≡ Some all) × (schema_word words ≡ Some name) × (file_named name all ≡ Some text)
+HasSchemaFile words files = (all : Files) × (command : Command) × (name : List ℕ) × (text : List ℕ) × (files ≡ Some all) × (command_of words ≡ Some (command, name)) × (file_named name all ≡ Some text)
+
+-- the host tells its files, and the one that the words name holds such a text
+abbrev pub Offers : List (List ℕ) → Option Files → (List ℕ → Type 0) → Type 0
+Offers words files P = (all : Files) × (command : Command) × (name : List ℕ) × (text : List ℕ) × (files ≡ Some all) × (command_of words ≡ Some (command, name)) × (file_named name all ≡ Some text) × P text
 
 -- nothing was read or written
 abbrev pub Untouched : Option (List ℕ) → Option (List ℕ) → Option (List ℕ) → Option (List ℕ) → Type 0
@@ -66,19 +68,49 @@ Untouched before left taken now = (left ≡ before) × (now ≡ taken)
 abbrev pub Prints : List ℕ → Type 0 → Option (List ℕ) → Option (List ℕ) → Type 0
 Prints line failed before after = (count : ℕ) × Appends before after (take count line) × ((length line ≤ count) ⊎ failed)
 
+-- how a run over a schema came to its end
+abbrev pub RunComes : End → Schema → Option (List ℕ) → Option (List ℕ) → Option (List ℕ) → Option (List ℕ) → Type 0
+RunComes end.Done schema before left taken now = (after : Tables) × Finishes schema no_rows after before left taken now
+RunComes end.Usage schema before left taken now = ⊥
+RunComes (end.Refused refusal) schema before left taken now = ⊥
+RunComes end.FetchFault schema before left taken now = ⊥
+RunComes end.ReadFault schema before left taken now = Halts false schema no_rows before left taken now
+RunComes end.WriteFault schema before left taken now = Halts true schema no_rows before left taken now
+RunComes end.Memory schema before left taken now = Halts false schema no_rows before left taken now
+RunComes end.LongInput schema before left taken now = Halts false schema no_rows before left taken now × IfSome left (λ unread. IsSomeAnd before (λ input. longest_input < length input))
+
+-- How `ok` came out: whole, or not where a write failed. Nothing was read.
+abbrev pub OkComes : End → Option (List ℕ) → Option (List ℕ) → Option (List ℕ) → Option (List ℕ) → Type 0
+OkComes end.Done before left taken now = (left ≡ before) × Appends taken now (codes "ok\n")
+OkComes end.Usage before left taken now = ⊥
+OkComes (end.Refused refusal) before left taken now = ⊥
+OkComes end.FetchFault before left taken now = ⊥
+OkComes end.ReadFault before left taken now = ⊥
+OkComes end.WriteFault before left taken now = (left ≡ before) × AppendsPart taken now (codes "ok\n")
+OkComes end.Memory before left taken now = ⊥
+OkComes end.LongInput before left taken now = ⊥
+
+-- how a command came to its end over its schema
+abbrev pub SchemaComes : Command → End → Schema → Option (List ℕ) → Option (List ℕ) → Option (List ℕ) → Option (List ℕ) → Type 0
+SchemaComes command.Run e schema before left taken now = RunComes e schema before left taken now
+SchemaComes command.Validate e schema before left taken now = OkComes e before left taken now
+
+-- how the command of the words came to its end over the schema that they name
+abbrev pub WithSchema : End → List (List ℕ) → Option Files → Option (List ℕ) → Option (List ℕ) → Option (List ℕ) → Option (List ℕ) → Type 0
+WithSchema e words files before left taken now = (command : Command) × (schema : Schema) × NamesSchema command words files schema × SchemaComes command e schema before left taken now
+
 -- How a command came to its end, before the line of its own.
 abbrev pub Comes : End → List (List ℕ) → Option Files → Option (List ℕ) → Option (List ℕ) → Option (List ℕ) → Option (List ℕ) → Type 0
-Comes end.Usage words files before left taken now = (schema_word words ≡ None) × Untouched before left taken now
-Comes end.FetchFault words files before left taken now = (name : List ℕ) × (schema_word words ≡ Some name) × Untouched before left taken now
-Comes end.Unbuilt words files before left taken now = (name : List ℕ) × (schema_word words ≡ Some name) × FileHolds files name (λ text. plain_of text ≡ None) × Untouched before left taken now
-Comes end.Done words files before left taken now = (schema : Schema) × (after : Tables) × NamesSchema words files schema × Finishes schema no_rows after before left taken now
-Comes end.LongInput words files before left taken now =
-    (schema : Schema) × NamesSchema words files schema × Halts false schema no_rows before left taken now × IfSome left (λ unread. IsSomeAnd before (λ input. longest_input < length input))
-Comes end.ReadFault words files before left taken now = (schema : Schema) × NamesSchema words files schema × Halts false schema no_rows before left taken now
-Comes end.WriteFault words files before left taken now = (schema : Schema) × NamesSchema words files schema × Halts true schema no_rows before left taken now
-Comes end.Memory words files before left taken now =
-    (name : List ℕ) × (schema_word words ≡ Some name) × (Untouched before left taken now ⊎ ((schema : Schema) × NamesSchema words files schema × Halts false schema no_rows before left taken now))
+Comes end.Done words files before left taken now = WithSchema end.Done words files before left taken now
+Comes end.Usage words files before left taken now = (command_of words ≡ None) × Untouched before left taken now
+Comes (end.Refused refusal) words files before left taken now = NamesRefused refusal words files × Untouched before left taken now
+Comes end.FetchFault words files before left taken now = (command : Command) × (name : List ℕ) × (command_of words ≡ Some (command, name)) × Untouched before left taken now
+Comes end.ReadFault words files before left taken now = WithSchema end.ReadFault words files before left taken now
+Comes end.WriteFault words files before left taken now = WithSchema end.WriteFault words files before left taken now
+Comes end.Memory words files before left taken now = (command : Command) × (name : List ℕ) × (command_of words ≡ Some (command, name)) × (Untouched before left taken now ⊎ WithSchema end.Memory words files before left taken now)
+Comes end.LongInput words files before left taken now = WithSchema end.LongInput words files before left taken now
 
+-- how a run ends whose lines ended so
 abbrev pub end_from : LinesEnd → End
 end_from lines.Done = end.Done
 end_from lines.LongInput = end.LongInput
@@ -86,14 +118,18 @@ end_from lines.ReadFault = end.ReadFault
 end_from lines.WriteFault = end.WriteFault
 end_from lines.Memory = end.Memory
 
--- the end of a run over the lines of an input, from empty tables
-abbrev pub RunEnds : End → Schema → Option (List ℕ) → Option (List ℕ) → Option (List ℕ) → Option (List ℕ) → Type 0
-RunEnds result schema before left taken now = (lines : LinesEnd) × (after : Tables) × (result ≡ end_from lines) × EndsRun lines schema no_rows after before left taken now
-
 -- All lines of the input were answered: what was written is an exchange over them, with one legal
 -- history from empty tables, and nothing is left to read.
 abbrev pub AnswersAll : List (List ℕ) → Option Files → Option (List ℕ) → Option (List ℕ) → Option (List ℕ) → Option (List ℕ) → Type 0
 AnswersAll words files before left taken now =
-    (schema : Schema) × NamesSchema words files schema
+    (schema : Schema) × NamesSchema command.Run words files schema
     × IfSome left (λ unread. IfSome now (λ written. IsSomeAnd before (λ input. IsSomeAnd taken (λ old.
     (unread ≡ []) × (length input ≤ longest_input) × ((bytes : List ℕ) × (after : State) × (written ≡ old ++ bytes) × Exchanges schema (opening schema no_rows) (lines_of input) bytes after)))))
+
+-- The file that the words name holds a schema, `ok` was written, and nothing was read.
+abbrev pub SaysOk : List (List ℕ) → Option Files → Option (List ℕ) → Option (List ℕ) → Option (List ℕ) → Option (List ℕ) → Type 0
+SaysOk words files before left taken now = (schema : Schema) × NamesSchema command.Validate words files schema × (left ≡ before) × Appends taken now (codes "ok\n")
+
+-- The file that the words name holds a text that is refused, and the line printed says why.
+abbrev pub SaysWhy : List (List ℕ) → Option Files → Type 0 → Option (List ℕ) → Option (List ℕ) → Option (List ℕ) → Option (List ℕ) → Type 0
+SaysWhy words files failed before left taken now = (refusal : Refusal) × NamesRefused refusal words files × (left ≡ before) × Prints (refusal_line refusal) failed taken now

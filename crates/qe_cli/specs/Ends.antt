@@ -1,5 +1,5 @@
 -- Where taking lines ends.
-use Rattle.std.specs.Prelude.{◌≡◌, ℕ, ◌+◌, ◌<◌, ◌≤◌, List, [], ◌∷◌, ◌++◌, length, take, Bool, true, false, Option, IfSome, IsSomeAnd, Result, Ok, Err}
+use Rattle.std.specs.Prelude.{◌≡◌, ℕ, ◌<◌, ◌≤◌, List, [], ◌∷◌, ◌++◌, length, take, Bool, true, false, Option, IfSome, IsSomeAnd, Result, Ok, Err}
 use Rattle.qe_base.specs.declared.schema.Schema.{Schema}
 use Rattle.qe_tables.specs.Tables.{Tables}
 use Rattle.qe_exchange.specs.Lines.{lines_of}

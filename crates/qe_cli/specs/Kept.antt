@@ -1,5 +1,5 @@
 -- What calls of a host leave.
-use Rattle.std.specs.Prelude.{◌≡◌, ℕ, ◌<◌, List, ◌++◌, length, take, Option, IfSome, IsSomeAnd, Bool, false}
+use Rattle.std.specs.Prelude.{◌≡◌, ℕ, ◌<◌, List, ◌++◌, length, take, Option, IfSome, IsSomeAnd}
 
 -- the sink took these bytes more, where it tells
 abbrev pub Appends : Option (List ℕ) → Option (List ℕ) → List ℕ → Type 0

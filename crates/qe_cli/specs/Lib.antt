@@ -1,5 +1,7 @@
+pub mod Asked
 pub mod Command
 pub mod Ends
 pub mod Kept
+pub mod Refused
 pub mod Run
 pub mod RealHost

@@ -1,11 +1,10 @@
 -- What comes of lines, one after another.
-use Rattle.std.specs.Prelude.{◌≡◌, ℕ, ◌<◌, List, [], ◌∷◌, ◌++◌, length, take, Bool, true, false, ◌==◌, Option}
+use Rattle.std.specs.Prelude.{◌≡◌, ℕ, List, [], ◌∷◌, ◌++◌, Bool, true, false, ◌==◌, Option}
 use Rattle.std.specs.List.{list_any}
 use Rattle.qe_base.specs.declared.schema.Schema.{Schema}
 use Rattle.qe_tables.specs.Tables.{Tables}
 use Rattle.qe_history.specs.declared.What.TheVariants as what
-use Rattle.qe_history.specs.declared.Reply.{Reply}
-use Rattle.qe_history.specs.State.{State, opening, Steps}
+use Rattle.qe_history.specs.State.{opening, Steps}
 use Rattle.qe_forms.specs.Request.{asked_of}
 use Rattle.qe_exchange.specs.Exchange.{Outcome, told, entered, ComesOf, ComeOf, entry_of, outcome_text, bytes_of}
 use Rattle.qe_cli.specs.Kept.{Appends, AppendsPart}

@@ -6,12 +6,15 @@ mod commands;
 mod host;
 mod input;
 mod real;
+mod refusal;
 mod take;
 #[cfg(test)]
 mod tests;
+mod words;
 
 pub use commands::{command, offline};
 pub use real::StdHost;
+pub use refusal::Refusal;
 
 /// Why taking lines stopped.
 #[derive(Clone, Copy, Debug, PartialEq, Eq)]
@@ -40,8 +43,8 @@ pub enum End {
     Done,
     /// The words are no command.
     Usage,
-    /// The schema's text isn't of the form that is read so far.
-    Unbuilt,
+    /// The schema's text is refused.
+    Refused(Refusal),
     FetchFault,
     ReadFault,
     WriteFault,

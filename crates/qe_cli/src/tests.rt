@@ -50,27 +50,37 @@ fn split_words(alloc: Global, line: &str) -> Result<Vec<String>, Memory> {
     Ok(words)
 }
 
-/// A schema, and a file that is none.
-fn some_files(alloc: Global) -> Result<Items<(Text, Bytes)>, Memory> {
+/// A host with one file, `people`. The numbers of the reads and of the writes that fail count from 1.
+fn host_over(
+    alloc: Global,
+    people: &[u8],
+    input: &[&str],
+    failing_reads: &[u64],
+    failing_writes: &[u64],
+) -> Result<MemHost, Memory> {
     let mut files = Items::new(alloc);
-    for (name, content) in [("people", PEOPLE), ("letter", "Dear Ada\n")] {
-        let content = Bytes::from_slice(alloc, content.as_bytes())?;
-        files.push((Text::from_str(alloc, name)?, content))?;
-    }
-    Ok(files)
+    let content = Bytes::from_slice(alloc, people)?;
+    files.push((Text::from_str(alloc, "people")?, content))?;
+    let input = joined(alloc, input, "")?;
+    let source = MemSource::new(alloc, input.as_str().as_bytes(), failing_reads)?;
+    let sink = MemSink::new(alloc, 4096, failing_writes)?;
+    MemHost::new(alloc, files, source, sink, &[])
 }
 
-/// A host over those files. The numbers of the reads and of the writes that fail count from 1.
+/// A host whose file is the schema.
 fn host_with(
     alloc: Global,
     input: &[&str],
     failing_reads: &[u64],
     failing_writes: &[u64],
 ) -> Result<MemHost, Memory> {
-    let input = joined(alloc, input, "")?;
-    let source = MemSource::new(alloc, input.as_str().as_bytes(), failing_reads)?;
-    let sink = MemSink::new(alloc, 4096, failing_writes)?;
-    MemHost::new(alloc, some_files(alloc)?, source, sink, &[])
+    host_over(
+        alloc,
+        PEOPLE.as_bytes(),
+        input,
+        failing_reads,
+        failing_writes,
+    )
 }
 
 /// The status of a command, and what it wrote.
@@ -83,6 +93,14 @@ fn run(
 ) -> Result<(u8, Bytes), Memory> {
     let mut host = host_with(alloc, input, failing_reads, failing_writes)?;
     let words = split_words(alloc, words)?;
+    let status = command(alloc, words.as_slice(), &mut host);
+    Ok((status, Bytes::from_slice(alloc, host.taken())?))
+}
+
+/// The status of `validate` over a text, and what it wrote. A read would fail.
+fn validate(alloc: Global, text: &[u8], failing_writes: &[u64]) -> Result<(u8, Bytes), Memory> {
+    let mut host = host_over(alloc, text, &[FIND_1], &[1], failing_writes)?;
+    let words = split_words(alloc, "engine validate people")?;
     let status = command(alloc, words.as_slice(), &mut host);
     Ok((status, Bytes::from_slice(alloc, host.taken())?))
 }
@@ -188,13 +206,55 @@ fn ends_without_an_answer(rt: HostRuntime) -> Result<(), Fail> {
         ("engine run people people", 2, "usage\n"),
         ("engine Run people", 2, "usage\n"),
         ("run people", 2, "usage\n"),
+        ("engine validate", 2, "usage\n"),
         ("engine run nothing", 4, "fault fetch\n"),
-        ("engine run letter", 3, "P1012 unbuilt\n"),
+        ("engine validate nothing", 4, "fault fetch\n"),
     ] {
         let (got, written) = run(rt.alloc(), words, &[FIND_1, "\n"], &[], &[])?;
         assert_eq!(rt; written.as_slice(), want.as_bytes(), "{words}");
         assert_eq!(rt; got, status, "{words}");
     }
+    Ok(())
+}
+
+#[test]
+fn validates_a_text(rt: HostRuntime) -> Result<(), Fail> {
+    for (text, status, want) in [
+        (PEOPLE.as_bytes(), 0, "ok\n"),
+        (b"", 3, "P1012 unbuilt\n"),
+        (&[255], 3, "P1012 T1 at 0\n"),
+        (b"#", 3, "P1012 T2 at 0\n"),
+        (b"model A {", 3, "P1012 T3 at 8\n"),
+        (b"model A {\nid Int @default(\"x\n", 3, "P1012 T3 at 26\n"),
+        (b"model A { id }", 3, "P1012 T4 at 13\n"),
+        (
+            b"model A {\n@@index([[[[[[[[[[[[[[[[[",
+            3,
+            "P1012 T4 at 34\n",
+        ),
+    ] {
+        let (got, written) = validate(rt.alloc(), text, &[])?;
+        assert_eq!(rt; written.as_slice(), want.as_bytes());
+        assert_eq!(rt; got, status, "{want}");
+    }
+    Ok(())
+}
+
+#[test]
+fn refuses_a_long_text(rt: HostRuntime) -> Result<(), Fail> {
+    let alloc = rt.alloc();
+    let spaces = vec![in alloc; b' '; 1_048_577]?;
+    let (status, written) = validate(alloc, spaces.as_slice(), &[])?;
+    assert_eq!(rt; written.as_slice(), b"P1012 T5 at 1048576\n".as_slice());
+    assert_eq!(rt; status, 3);
+    Ok(())
+}
+
+#[test]
+fn says_ok_to_a_sink_that_fails(rt: HostRuntime) -> Result<(), Fail> {
+    let (status, written) = validate(rt.alloc(), PEOPLE.as_bytes(), &[1])?;
+    assert!(rt; written.as_slice().is_empty());
+    assert_eq!(rt; status, 4);
     Ok(())
 }
 

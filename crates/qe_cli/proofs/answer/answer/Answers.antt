@@ -1,4 +1,4 @@
-use Rattle.std.proofs.Common.{◌≡◌, ◌∙◌, ◌++◌, ◌∷◌, [], ap, Err}
+use Rattle.std.proofs.Common.{◌∙◌, ◌++◌, ◌∷◌, [], ap, Err}
 use Rattle.qe_ops.specs.Performs.{tables_of}
 use Rattle.qe_cli.proofs.Answered.{on_ok, told_answers, entered_answers, not_json_told, unbuilt_told, memory_told}
 use Rattle.qe_cli.proofs.answer.answer.Goals as goal

@@ -1,4 +1,4 @@
-use Rattle.std.proofs.Common.{◌≡◌, Err, subst}
+use Rattle.std.proofs.Common.{Err, subst}
 use Rattle.qe_exchange.specs.Exchange.{outside}
 use Rattle.qe_plain.specs.Plain.{plain}
 use Rattle.qe_ops.specs.Performs.{tables_of, Performs}

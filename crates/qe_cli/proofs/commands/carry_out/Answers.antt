@@ -1,20 +1,27 @@
-use Rattle.std.proofs.Common.{◌≡◌, ◌∙◌, ap, sym, subst, Err, map, string_bytes, Some, None}
-use Rattle.psl_schema.specs.Plain.{plain_of}
-use Rattle.qe_cli.specs.Command.{RunEnds, Comes, schema_word}
-use Rattle.qe_cli.proofs.Ended.{comes_run, file_holds}
+use Rattle.std.proofs.Common.{sym, subst, map, string_bytes, ◌∙◌}
+use Rattle.qe_cli.specs.declared.words.Command.TheVariants as command
+use Rattle.qe_cli.specs.Command.{SchemaComes}
+use Rattle.qe_cli.specs.Refused.{HasSchema, Unread}
+use Rattle.qe_cli.proofs.Ended.{obeyed, unread, asked_once}
 use Rattle.qe_cli.proofs.commands.carry_out.Goals as goal
 
-pub returns-in-Ok-plain-clause-comes : goal.returns-in-Ok-plain-clause-comes
-returns-in-Ok-plain-clause-comes g c =
-    comes_run c.run_schema.result (map string_bytes c.args.words.now) (g.H.Host.files c.args.host.now) c.in-Some.name.now c.in-Ok.text c.in-Ok-plain.schema (g.H.Source.left c.args.host.now) (g.H.Source.left c.run_schema.new.host) (g.H.Sink.taken c.args.host.now)
-    (g.H.Sink.taken c.run_schema.new.host) (sym c.in-Some.ensures) c.in-Ok.ensures.fetches.bytes (ap plain_of (sym c.as_slice.ensures) ∙ c.in-Ok-plain.ensures.tables)
-    (subst (λ b. RunEnds c.run_schema.result c.in-Ok-plain.schema b (g.H.Source.left c.run_schema.new.host) (g.H.Sink.taken c.args.host.now) (g.H.Sink.taken c.run_schema.new.host)) c.fetch.ensures.input.0
-    (subst (λ t. RunEnds c.run_schema.result c.in-Ok-plain.schema (g.H.Source.left c.fetch.new.self) (g.H.Source.left c.run_schema.new.host) t (g.H.Sink.taken c.run_schema.new.host)) c.fetch.ensures.output.0 c.run_schema.ensures.ends))
+pub returns-in-Ok-read_schema-clause-comes : goal.returns-in-Ok-read_schema-clause-comes
+returns-in-Ok-read_schema-clause-comes g c =
+    let schema = c.in-Ok-read_schema.schema in
+    let left = g.H.Source.left c.obey.new.host in
+    let taken = g.H.Sink.taken c.obey.new.host in
+    obeyed c.obey.result (map string_bytes c.args.words.now) (g.H.Host.files c.args.host.now) c.in-Some.name.now c.in-Ok.text c.in-Some.command schema (g.H.Source.left c.args.host.now) left (g.H.Sink.taken c.args.host.now) taken (sym c.in-Some.ensures) c.in-Ok.ensures.fetches.bytes
+    (subst (λ t. HasSchema t schema) c.as_slice.ensures c.in-Ok-read_schema.ensures.ok)
+    (subst (λ b. SchemaComes c.in-Some.command c.obey.result schema b left (g.H.Sink.taken c.args.host.now) taken) c.fetch.ensures.input.0
+    (subst (λ t. SchemaComes c.in-Some.command c.obey.result schema (g.H.Source.left c.fetch.new.self) left t taken) c.fetch.ensures.output.0 c.obey.ensures.ends))
 
-pub returns-in-Err-Unbuilt-clause-comes : goal.returns-in-Err-Unbuilt-clause-comes
-returns-in-Err-Unbuilt-clause-comes g c = (
-  c.in-Some.name.now,
-  sym c.in-Some.ensures,
-  file_holds (g.H.Host.files c.args.host.now) c.in-Some.name.now c.in-Ok.text None (ap plain_of (sym c.as_slice.ensures) ∙ c.in-Err-Unbuilt.ensures.unbuilt (ap (λ f. Err f) c.in-Err-Unbuilt.field-0-is)) c.in-Ok.ensures.fetches.bytes,
-  (c.fetch.ensures.input.0, c.fetch.ensures.output.0),
-)
+pub returns-clause-comes : goal.returns-clause-comes
+returns-clause-comes g c =
+    unread c.in-Err.end (map string_bytes c.args.words.now) (g.H.Host.files c.args.host.now) c.in-Some.name.now c.in-Ok.text c.in-Some.command (g.H.Source.left c.args.host.now) (g.H.Source.left c.fetch.new.self) (g.H.Sink.taken c.args.host.now) (g.H.Sink.taken c.fetch.new.self)
+    (sym c.in-Some.ensures) c.in-Ok.ensures.fetches.bytes (subst (Unread c.in-Err.end) c.as_slice.ensures c.in-Err.ensures.err) (c.fetch.ensures.input.0, c.fetch.ensures.output.0)
+
+pub returns-in-Ok-read_schema-clause-still : goal.returns-in-Ok-read_schema-clause-still
+returns-in-Ok-read_schema-clause-still g c = λ asks.
+    let same = asked_once (map string_bytes c.args.words.now) c.in-Some.command command.Validate c.in-Some.name.now (sym c.in-Some.ensures) asks in
+    let still = c.obey.ensures.still same in
+    (still.0 ∙ c.fetch.ensures.input.0, still.1 ∙ c.fetch.ensures.input.1)

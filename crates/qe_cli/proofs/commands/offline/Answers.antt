@@ -1,13 +1,86 @@
-use Rattle.std.proofs.Common.{map, string_bytes, ap, ◌∙◌}
+use Rattle.std.proofs.Common.{◌≡◌, map, string_bytes, subst, sym, rules}
 use Rattle.qe_base.specs.Causes.{Rose}
-use Rattle.qe_cli.specs.Command.{AnswersAll, Prints, line_of}
-use Rattle.std.proofs.Common.{subst, sym}
-use Rattle.qe_cli.proofs.Ended.{all_answered}
+use Rattle.qe_cli.specs.Command.{Comes, HasSchemaFile, AnswersAll, SaysOk, SaysWhy, line_of}
+use Rattle.qe_cli.proofs.Complete.{accepts, rejects}
+use Rattle.qe_cli.proofs.Ended.{all_answered, said_ok, says_why, printed_end, prints_over}
 use Rattle.qe_cli.proofs.commands.offline.Goals as goal
 
+pub returns-clause-ends : goal.returns-clause-ends
+returns-clause-ends g c =
+    let words = map string_bytes c.args.words.now in
+    let files = g.H.Host.files c.args.host.now in
+    let before = g.H.Source.left c.args.host.now in
+    let taken = g.H.Sink.taken c.args.host.now in
+    let mid = g.H.Sink.taken c.carry_out-end.new.host in (
+      c.print_end.result,
+      mid,
+      c.status.ensures,
+      subst (λ l. Comes c.print_end.result words files before l taken mid) (sym c.print_end.ensures.input.0)
+          (printed_end c.print_end.result c.carry_out-end.result words files before (g.H.Source.left c.carry_out-end.new.host) taken mid c.print_end.ensures.end c.carry_out-end.ensures.comes),
+      prints_over (line_of c.print_end.result) (g.H.Sink.write_faults c.args.host.now) (g.H.Sink.write_faults c.carry_out-end.new.host) (g.H.Sink.write_faults c.print_end.new.host) mid (g.H.Sink.taken c.print_end.new.host) c.carry_out-end.ensures.write_cause.later c.print_end.ensures.prints,
+    )
+
+pub returns-clause-refused : goal.returns-clause-refused
+returns-clause-refused g c = λ three.
+    let words = map string_bytes c.args.words.now in
+    let files = g.H.Host.files c.args.host.now in
+    let before = g.H.Source.left c.args.host.now in
+    let left = g.H.Source.left c.carry_out-end.new.host in
+    let taken = g.H.Sink.taken c.args.host.now in
+    let mid = g.H.Sink.taken c.carry_out-end.new.host in
+    let now = g.H.Sink.taken c.print_end.new.host in
+    let first = g.H.Sink.write_faults c.args.host.now in
+    let last = g.H.Sink.write_faults c.print_end.new.host in
+    subst (λ l. SaysWhy words files (Rose first last) before l taken now) (sym c.print_end.ensures.input.0)
+    (says_why c.status.result c.print_end.result words files before left taken mid now (Rose first last) c.status.ensures (printed_end c.print_end.result c.carry_out-end.result words files before left taken mid c.print_end.ensures.end c.carry_out-end.ensures.comes)
+    (prints_over (line_of c.print_end.result) first (g.H.Sink.write_faults c.carry_out-end.new.host) last mid now c.carry_out-end.ensures.write_cause.later c.print_end.ensures.prints) three)
+
 pub returns-clause-answered : goal.returns-clause-answered
-returns-clause-answered g c = λ none.
-    subst (λ l. AnswersAll (map string_bytes c.args.words.now) (g.H.Host.files c.args.host.now) (g.H.Source.left c.args.host.now) l (g.H.Sink.taken c.args.host.now) (g.H.Sink.taken c.print_line.new.host)) (sym c.print_line.ensures.input.0)
-    (all_answered c.status.result c.carry_out-end.result (map string_bytes c.args.words.now) (g.H.Host.files c.args.host.now) (g.H.Source.left c.args.host.now) (g.H.Source.left c.carry_out-end.new.host) (g.H.Sink.taken c.args.host.now)
-    (g.H.Sink.taken c.carry_out-end.new.host) (g.H.Sink.taken c.print_line.new.host) (Rose (g.H.Sink.write_faults c.carry_out-end.new.host) (g.H.Sink.write_faults c.print_line.new.host)) c.status.ensures c.carry_out-end.ensures.comes
-    (subst (λ l. Prints l (Rose (g.H.Sink.write_faults c.carry_out-end.new.host) (g.H.Sink.write_faults c.print_line.new.host)) (g.H.Sink.taken c.carry_out-end.new.host) (g.H.Sink.taken c.print_line.new.host)) c.line.ensures c.print_line.ensures.prints) none)
+returns-clause-answered g c = λ asks none.
+    let words = map string_bytes c.args.words.now in
+    let files = g.H.Host.files c.args.host.now in
+    let before = g.H.Source.left c.args.host.now in
+    let left = g.H.Source.left c.carry_out-end.new.host in
+    let taken = g.H.Sink.taken c.args.host.now in
+    let mid = g.H.Sink.taken c.carry_out-end.new.host in
+    let now = g.H.Sink.taken c.print_end.new.host in
+    let rose = Rose (g.H.Sink.write_faults c.carry_out-end.new.host) (g.H.Sink.write_faults c.print_end.new.host) in
+    subst (λ l. AnswersAll words files before l taken now) (sym c.print_end.ensures.input.0)
+    (all_answered c.status.result c.print_end.result words files before left taken mid now rose c.status.ensures (printed_end c.print_end.result c.carry_out-end.result words files before left taken mid c.print_end.ensures.end c.carry_out-end.ensures.comes) c.print_end.ensures.prints asks none)
+
+pub returns-clause-validated : goal.returns-clause-validated
+returns-clause-validated g c = λ asks none.
+    let words = map string_bytes c.args.words.now in
+    let files = g.H.Host.files c.args.host.now in
+    let before = g.H.Source.left c.args.host.now in
+    let left = g.H.Source.left c.carry_out-end.new.host in
+    let taken = g.H.Sink.taken c.args.host.now in
+    let mid = g.H.Sink.taken c.carry_out-end.new.host in
+    let now = g.H.Sink.taken c.print_end.new.host in
+    let rose = Rose (g.H.Sink.write_faults c.carry_out-end.new.host) (g.H.Sink.write_faults c.print_end.new.host) in
+    subst (λ l. SaysOk words files before l taken now) (sym c.print_end.ensures.input.0)
+    (said_ok c.status.result c.print_end.result words files before left taken mid now rose c.status.ensures (printed_end c.print_end.result c.carry_out-end.result words files before left taken mid c.print_end.ensures.end c.carry_out-end.ensures.comes) c.print_end.ensures.prints asks none)
+
+pub returns-clause-accepts : goal.returns-clause-accepts
+returns-clause-accepts g c = λ steady schema offer.
+    let words = map string_bytes c.args.words.now in
+    let files = g.H.Host.files c.args.host.now in
+    let before = g.H.Source.left c.args.host.now in
+    let left = g.H.Source.left c.carry_out-end.new.host in
+    let taken = g.H.Sink.taken c.args.host.now in
+    let mid = g.H.Sink.taken c.carry_out-end.new.host in
+    let has : HasSchemaFile words files = (offer.0, offer.1, offer.2, offer.3, offer.4, offer.5, offer.6) in
+    let sure : c.status.result ≡ 4 → ⊥ = search rules in
+    accepts c.status.result c.print_end.result words files before left taken mid schema c.status.ensures (printed_end c.print_end.result c.carry_out-end.result words files before left taken mid c.print_end.ensures.end c.carry_out-end.ensures.comes) sure offer
+
+pub returns-clause-refuses : goal.returns-clause-refuses
+returns-clause-refuses g c = λ steady why offer.
+    let words = map string_bytes c.args.words.now in
+    let files = g.H.Host.files c.args.host.now in
+    let before = g.H.Source.left c.args.host.now in
+    let left = g.H.Source.left c.carry_out-end.new.host in
+    let taken = g.H.Sink.taken c.args.host.now in
+    let mid = g.H.Sink.taken c.carry_out-end.new.host in
+    let has : HasSchemaFile words files = (offer.0, offer.1, offer.2, offer.3, offer.4, offer.5, offer.6) in
+    let sure : c.status.result ≡ 4 → ⊥ = search rules in
+    rejects c.status.result c.print_end.result words files before left taken mid why c.status.ensures (printed_end c.print_end.result c.carry_out-end.result words files before left taken mid c.print_end.ensures.end c.carry_out-end.ensures.comes) sure offer

@@ -1,6 +1,6 @@
-use Rattle.std.proofs.Common.{rules, arith, ◌≡◌, ◌<◌, ◌-◌, length, take, drop, subst, sym, ◌∙◌}
+use Rattle.std.proofs.Common.{rules, arith, ◌<◌, length, subst, sym}
 use Rattle.std.proofs.lemmas.Bool.Decides.{nat_tests}
-use Rattle.qe_cli.specs.Kept.{Appends, AppendsPart}
+use Rattle.qe_cli.specs.Kept.{AppendsPart}
 use Rattle.qe_cli.proofs.Wrote.{on_any_err, part_taken, writing_more, IsWriting}
 use Rattle.qe_cli.proofs.host.write_all.Goals as goal
 

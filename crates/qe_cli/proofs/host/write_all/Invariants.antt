@@ -1,5 +1,4 @@
-use Rattle.std.proofs.Common.{◌≡◌, ℕ, ◌-◌, ◌≤◌, length, take, drop, false, Bool}
-use Rattle.qe_cli.specs.Kept.{Appends}
+use Rattle.std.proofs.Common.{◌≡◌, ◌≤◌, length, false}
 use Rattle.qe_cli.proofs.Wrote.{IsWriting}
 use Rattle.qe_cli.proofs.host.write_all.Given as goal
 

@@ -1,8 +1,8 @@
-use Rattle.std.proofs.Common.{rules, arith, ◌≡◌, ◌<◌, ◌≤◌, ◌+◌, ◌-◌, ◌++◌, ◌∙◌, List, ℕ, refl, sym, ap, subst, length, take, Some, false}
-use Rattle.std.specs.Prelude.{IfSome, OnOk, ◌↔◌}
+use Rattle.std.proofs.Common.{rules, arith, ◌≡◌, ◌<◌, ◌-◌, ◌++◌, ◌∙◌, refl, sym, ap, subst, Some, false}
+use Rattle.std.specs.Prelude.{IfSome, OnOk}
 use Rattle.qe_exchange.specs.Lines.{is_blank}
 use Rattle.qe_ops.specs.Performs.{tables_of}
-use Rattle.qe_cli.specs.Ends.{EndsRun, Halts, Takes, Stops, cuts, end_behind, end_by}
+use Rattle.qe_cli.specs.Ends.{EndsRun, Halts, Takes, Stops, cuts, end_behind}
 use Rattle.qe_cli.specs.Run.{LineTaken, LineStopped, has_newline}
 use Rattle.qe_cli.proofs.Reading.{IsReading, reading_none, reading_more, reading_stops, reading_ends, end_halts}
 use Rattle.qe_cli.proofs.input.take_pieces.Goals as goal

@@ -1,4 +1,4 @@
-use Rattle.std.proofs.Common.{◌≡◌, ◌++◌, ◌∷◌, false, take, drop, arith, sym, subst, ap, ◌∙◌}
+use Rattle.std.proofs.Common.{◌++◌, ◌∷◌, drop, arith, sym, ap, ◌∙◌}
 use Rattle.qe_cli.specs.Run.{has_newline}
 use Rattle.qe_cli.proofs.Newlines.{none_before, none_at_all, around_newline}
 use Rattle.qe_cli.proofs.take.split_line.Goals as goal

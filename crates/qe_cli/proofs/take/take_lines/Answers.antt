@@ -1,7 +1,6 @@
 use Rattle.std.proofs.Common.{rules, false, ◌≡◌, ◌++◌, ◌∙◌, refl, sym, ap, subst, Err}
 use Rattle.qe_ops.specs.Performs.{tables_of}
-use Rattle.qe_exchange.specs.Lines.{is_blank}
-use Rattle.qe_cli.specs.Run.{LineTaken, has_newline}
+use Rattle.qe_cli.specs.Run.{has_newline}
 use Rattle.qe_cli.specs.Ends.{Stops, Takes, cuts}
 use Rattle.qe_cli.proofs.Taken.{takes_none, takes_next, stops_append, stops_short, stops_err, stops_why}
 use Rattle.qe_cli.proofs.take.take_lines.Goals as goal
