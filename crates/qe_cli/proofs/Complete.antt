@@ -1,7 +1,7 @@
 -- The statuses over a host that fails nowhere and has the file.
-use Rattle.std.proofs.Common.{◌≡◌, ℕ, List, Option, Some, None, Bool, true, false, sym, ap, ◌∙◌, subst, true≢false, inl, inr, ◌⊎◌}
+use Rattle.std.proofs.Common.{◌≡◌, ℕ, List, Option, Some, None, sym, ap, ◌∙◌, subst, true≢false, inl, inr, ◌⊎◌}
 use Rattle.std.specs.Prelude.{IsSomeAnd, is_some, unwrap_or}
-use Rattle.qe_base.specs.Outside.{Files, file_named}
+use Rattle.qe_base.specs.Outside.{Files}
 use Rattle.qe_base.specs.declared.schema.Schema.{Schema}
 use Rattle.psl_text.specs.declared.fault.TextFault.TheVariants as fault
 use Rattle.psl_text.proofs.BlockRules.{one_tree_only}
