@@ -143,7 +143,7 @@ blocks_ok : (ts : List Token) (xs : List Block) (rest : List Token) → blocks t
 unfolding blocks
 blocks_ok ts xs rest e = let found = blocks_from_ok (length ts) [] ts xs rest e in subst (λ ys. AreBlocks ts ys rest) (sym found.1) found.2
 
-blocks_is : (ts : List Token) (xs : List Block) (rest : List Token) → AreBlocks ts xs rest → blocks ts ≡ Ok (xs, rest)
+pub blocks_is : (ts : List Token) (xs : List Block) (rest : List Token) → AreBlocks ts xs rest → blocks ts ≡ Ok (xs, rest)
 unfolding blocks
 blocks_is ts xs rest d = blocks_from_is (length ts) [] ts xs rest d (omega arith)
 

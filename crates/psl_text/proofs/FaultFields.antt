@@ -28,10 +28,10 @@ use Rattle.psl_text.proofs.FaultAttributes.{stop_begins, block_attribute_refuses
 
 -- ---- marks
 
-abbrev closing : Parser Mark
+abbrev pub closing : Parser Mark
 closing = expect kind.CloseBracket >> pure mark.Many
 
-abbrev no_question : Parser Mark
+abbrev pub no_question : Parser Mark
 no_question = eat kind.OpenBracket >>= λ opens. cond opens closing (pure mark.One)
 
 mark_found : (ts : List Token) (e : TextFault) → mark_of ts ≡ Err e → (us : List Token) × MarkStops ts us × (e ≡ refusal us)
@@ -82,10 +82,10 @@ mark_reaches ts m rest IsMark.one = elim (next_is kind.Question ts question_insi
 
 -- ---- settings
 
-abbrev behind_equals : Name → Parser Entry
+abbrev pub behind_equals : Name → Parser Entry
 behind_equals n = whole_term >>= λ v. pure (entry.Setting n v)
 
-abbrev after_name : Name → Parser Entry
+abbrev pub after_name : Name → Parser Entry
 after_name n = expect kind.Equals >> behind_equals n
 
 pub setting_found : (ts : List Token) (e : TextFault) → setting ts ≡ Err e → (us : List Token) × SettingStops ts us × (e ≡ refusal us)
@@ -135,7 +135,7 @@ setting_reaches ts us vs n v rest s q t = elim ((term_judges max_depth).reaches 
 -- ---- members
 
 module _ (above : List (List ℕ)) where
-  abbrev behind_member : Name → Parser Entry
+  abbrev pub behind_member : Name → Parser Entry
   behind_member n = attributes >>= λ found. pure (entry.Member n found above)
 
   member_found : (ts : List Token) (e : TextFault) → member above ts ≡ Err e → (us : List Token) × MemberStops ts us × (e ≡ refusal us)
@@ -179,13 +179,13 @@ module _ (above : List (List ℕ)) where
 
   -- ---- fields
 
-  abbrev behind_mark : Name → Name → Mark → Parser Entry
+  abbrev pub behind_mark : Name → Name → Mark → Parser Entry
   behind_mark n k m = attributes >>= λ found. pure (entry.Field n k m found above)
 
-  abbrev behind_type : Name → Name → Parser Entry
+  abbrev pub behind_type : Name → Name → Parser Entry
   behind_type n k = mark_of >>= behind_mark n k
 
-  abbrev behind_name : Name → Parser Entry
+  abbrev pub behind_name : Name → Parser Entry
   behind_name n = name >>= behind_type n
 
   field_found : (ts : List Token) (e : TextFault) → field above ts ≡ Err e → (us : List Token) × FieldStops ts us × (e ≡ refusal us)

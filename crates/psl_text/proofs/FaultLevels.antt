@@ -140,7 +140,7 @@ module _ (value : Parser Term) (Value : List Token → Term → List Token → T
   unfolding level kind_of
   level_none = refl
 
-  level_judges : Judges (level value) (IsTermOf Value) (TermStopsOf Value ValueStops)
+  pub level_judges : Judges (level value) (IsTermOf Value) (TermStopsOf Value ValueStops)
   level_judges = record {
     refuses = record { found = level_found; stops = level_stops };
     reaches = level_reaches;

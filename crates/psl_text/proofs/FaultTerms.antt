@@ -30,7 +30,7 @@ named_fault_by kind.Unclosed ts e = refl
 named_fault_by _ ts e = absurd (cc)
 
 -- what is no token behind a name
-named_fault : (ts us : List Token) → Sign kind.Name ts us → is_fault (kind_of us) ≡ true → argument_name ts ≡ Err (refusal us)
+pub named_fault : (ts us : List Token) → Sign kind.Name ts us → is_fault (kind_of us) ≡ true → argument_name ts ≡ Err (refusal us)
 unfolding argument_name
 named_fault ts us s f =
     let seen = sign_sees kind.Name ts us name_self s in
@@ -42,7 +42,7 @@ abbrev pub IsPlain : List Token → Type 0
 IsPlain ts = (n : Name) (vs : List Token) → Spelled kind.Name ts n vs → (kind_of vs ≢ kind.Colon) × (is_fault (kind_of vs) ≡ false)
 
 -- how an argument begins
-data Begins (ts : List Token) : Type 0 where
+pub data Begins (ts : List Token) : Type 0 where
   named : (us vs : List Token) (n : Name) → Spelled kind.Name ts n us → Sign kind.Colon us vs → argument_name ts ≡ Ok (Some n, vs) → Begins ts
   no_token : (us : List Token) (n : Name) → Spelled kind.Name ts n us → is_fault (kind_of us) ≡ true → argument_name ts ≡ Err (refusal us) → Begins ts
   plain : IsPlain ts → argument_name ts ≡ Ok (None, ts) → Begins ts
@@ -63,7 +63,7 @@ begins_name ts us n s = elim (next_is kind.Colon us colon_inside) [
             let same : us ≡ vs = rests_same kind.Name kind.Name ts us vs name_self name_self (spelled_sees kind.Name ts n us s) (spelled_sees kind.Name ts m vs t) in
             (sees_misses kind.Colon vs (subst (λ zs. sees kind.Colon zs ≡ false) same no_colon), subst (λ zs. is_fault (kind_of zs) ≡ false) same f)
 
-begins : (ts : List Token) → Begins ts
+pub begins : (ts : List Token) → Begins ts
 unfolding argument_name
 begins ts = by_test (sees kind.Name ts) refl
   where
@@ -74,7 +74,7 @@ begins ts = by_test (sees kind.Name ts) refl
         no_name : (n : Name) (vs : List Token) → Spelled kind.Name ts n vs → ⊥
         no_name n vs s = let seen = (sign_sees kind.Name ts vs name_self (spelled_sees kind.Name ts n vs s)).0 in absurd (cc)
 
-plain_name : (ts : List Token) → IsPlain ts → Begins ts → argument_name ts ≡ Ok (None, ts)
+pub plain_name : (ts : List Token) → IsPlain ts → Begins ts → argument_name ts ≡ Ok (None, ts)
 plain_name ts p (Begins.named us vs n s c e) = absurd ((p n us s).0 (sign_kind kind.Colon us vs c))
 plain_name ts p (Begins.no_token us n s f e) = let other = (p n us s).1 in absurd (cc)
 plain_name ts p (Begins.plain q e) = e
@@ -92,11 +92,11 @@ module _ (value : Parser Term) (Value : List Token → Term → List Token → T
   abbrev with_name : Option Name → Parser Argument
   with_name o = value >>= λ v. pure (roll-Argument (record { name = o; value = v }))
 
-  after_name : (ts us : List Token) (o : Option Name) → argument_name ts ≡ Ok (o, us) → argument value ts ≡ with_name o us
+  pub after_name : (ts us : List Token) (o : Option Name) → argument_name ts ≡ Ok (o, us) → argument value ts ≡ with_name o us
   unfolding argument
   after_name ts us o e = bind_goes (argument_name ts) with_name o us e
 
-  no_name : (ts : List Token) (e : TextFault) → argument_name ts ≡ Err e → argument value ts ≡ Err e
+  pub no_name : (ts : List Token) (e : TextFault) → argument_name ts ≡ Err e → argument value ts ≡ Err e
   unfolding argument
   no_name ts e h = bind_stops (argument_name ts) with_name e h
 
@@ -138,7 +138,7 @@ module _ (value : Parser Term) (Value : List Token → Term → List Token → T
     })
   ]
 
-  argument_reaches : Reaches (argument value) Anything (IsArgument Value)
+  pub argument_reaches : Reaches (argument value) Anything (IsArgument Value)
   argument_reaches ts a rest (IsArgument.named {us} {vs} {n} {v} s c h) = value_reaches ts vs (Some n) v rest (named_yes ts us vs n s c) h
   argument_reaches ts a rest (IsArgument.plain {v} h) = by_name (begins ts)
     where
@@ -161,7 +161,7 @@ module _ (value : Parser Term) (Value : List Token → Term → List Token → T
   unfolding argument argument_name sees same_kind kind_of
   argument_none = bind_stops (value []) (λ v. pure (roll-Argument (record { name = None; value = v }))) (refusal []) judges.none
 
-  argument_refuses : Refuses (argument value) (ArgumentStops ValueStops)
+  pub argument_refuses : Refuses (argument value) (ArgumentStops ValueStops)
   argument_refuses = record { found = argument_found; stops = argument_stops }
 
   -- ---- lists

@@ -16,6 +16,6 @@ mod token;
 mod tree;
 
 pub use fault::TextFault;
-pub use laws::{never_both, one_fault, one_tree, some_answer};
+pub use laws::{first_from_the_left, never_both, one_fault, one_tree, some_answer};
 pub use reader::read_tree;
 pub use tree::{Argument, Attribute, Block, Entry, Mark, Name, Term, Tree, Word};
