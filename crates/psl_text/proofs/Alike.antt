@@ -1,6 +1,6 @@
 -- Tokens that begin alike: what is read of the ones is read of the others, and what is refused of the ones is refused of
 -- the others.
-use Rattle.std.proofs.Common.{◌≡◌, ℕ, ◌<◌, Bool, true, false, cond, List, [], ◌∷◌, ◌++◌, length, Ok, Err, inl, inr, refl, sym, ap, subst, ◌∙◌, append_assoc}
+use Rattle.std.proofs.Common.{◌≡◌, Bool, true, false, cond, List, [], ◌∷◌, ◌++◌, Ok, Err, inl, inr, refl, sym, ap, subst, ◌∙◌, append_assoc}
 use Rattle.psl_text.specs.declared.fault.TextFault.{TextFault}
 use Rattle.psl_text.specs.declared.token.Kind.{Kind}
 use Rattle.psl_text.specs.declared.token.Token.{Token}

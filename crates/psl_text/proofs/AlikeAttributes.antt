@@ -1,35 +1,24 @@
 -- Attributes of tokens that begin alike.
-use Rattle.std.proofs.Common.{◌≡◌, ℕ, zero, suc, ◌<◌, ◌≤◌, false, cond, List, [], ◌∷◌, ◌++◌, length, Ok, Err, inl, inr, refl, sym, ap, subst, ◌∙◌, arith, append_assoc}
+use Rattle.std.proofs.Common.{◌≡◌, ℕ, zero, suc, ◌<◌, ◌≤◌, false, List, [], ◌∷◌, ◌++◌, length, Ok, Err, inl, inr, ap, ◌∙◌, arith, append_assoc}
 use Rattle.psl_text.specs.declared.fault.TextFault.{TextFault}
 use Rattle.psl_text.specs.declared.token.Kind.TheVariants as kind
 use Rattle.psl_text.specs.declared.token.Token.{Token}
 use Rattle.psl_text.specs.declared.tree.Name.{Name}
 use Rattle.psl_text.specs.declared.tree.Attribute.{Attribute}
-use Rattle.psl_text.specs.declared.tree.Mark.{Mark}
-use Rattle.psl_text.specs.declared.tree.Mark.TheVariants as mark
-use Rattle.psl_text.specs.declared.tree.Entry.{Entry}
-use Rattle.psl_text.specs.declared.tree.Entry.TheVariants as entry
-use Rattle.psl_text.specs.declared.tree.Word.{Word}
-use Rattle.psl_text.specs.declared.tree.Word.TheVariants as word
-use Rattle.psl_text.specs.Parser.{Parser, ◌>>=◌, ◌>>◌, pure, sees, same_kind, docs_of, eat, expect, name}
-use Rattle.psl_text.specs.Grammar.{max_depth, whole_term, arguments, attribute_name, arguments_if_any, attribute, block_attribute, attributes_from, attributes, mark_of, setting, field, member, of_block, entry_of}
-use Rattle.psl_text.specs.Derives.{Sign, Spelled, IsTerm, IsAttributeName, IsAttribute, IsMark}
+use Rattle.psl_text.specs.Parser.{Parser, ◌>>=◌, pure, sees, name}
+use Rattle.psl_text.specs.Grammar.{max_depth, whole_term, arguments, attribute_name, arguments_if_any, attribute, block_attribute, attributes_from, attributes}
+use Rattle.psl_text.specs.Derives.{Sign, Spelled, IsTerm, IsAttributeName}
 use Rattle.psl_text.specs.Stops.{Misses, TermStops, AttributeNameStops, AttributeStops, AttributesStop}
-use Rattle.psl_text.specs.Faults.{MarkStops, SettingStops, FieldStops, MemberStops, OfBlockStops, EntryStops}
-use Rattle.psl_text.proofs.Steps.{bind_ok, ok_value, ok_rest, when_ok, when_yes, when_no, sign_other, sign_shrinks}
-use Rattle.psl_text.proofs.TermRules.{stops, name_inside, name_self, paren_inside, paren_self, bracket_inside, bracket_self, close_bracket_inside, close_bracket_self}
+use Rattle.psl_text.proofs.Steps.{bind_ok, ok_value, ok_rest, when_ok, when_yes, when_no, sign_shrinks}
+use Rattle.psl_text.proofs.TermRules.{stops, name_inside, name_self, paren_inside, paren_self}
 use Rattle.psl_text.proofs.LevelRules.{term_value}
 use Rattle.psl_text.proofs.AttributeRules.{dot_inside, dot_self, at_inside, at_self, stop_at, attribute_name_ok, attribute_name_shrinks, field_attribute_ok, field_attribute_is, field_attribute_shrinks, plain_ok, plain_shrinks}
-use Rattle.psl_text.proofs.EntryRules.{question_inside, question_self, equals_inside, equals_self, at_at_inside, at_at_self, mark_is}
 use Rattle.psl_text.proofs.FaultSteps.{bind_stops, bind_goes, misses_sees, sign_spelled, Refuses, Reaches}
 use Rattle.psl_text.proofs.FaultSeparate.{end_misses}
 use Rattle.psl_text.proofs.FaultLevels.{term_judges}
 use Rattle.psl_text.proofs.FaultAttributes.{dotted, behind_name, GivenStops, FieldAttributeStops, each, Apart, called_before, attribute_name_found, attribute_name_stops, attribute_name_reaches, plain_refuses, plain_reaches, stop_begins}
-use Rattle.psl_text.proofs.FaultFields.{closing, no_question, behind_equals, after_name, behind_member, behind_mark, behind_type} 
-use Rattle.psl_text.proofs.FaultFields as fields
-use Rattle.psl_text.proofs.FaultEntries.{of_attribute}
-use Rattle.psl_text.proofs.Alike.{Alike, docs_again, seen_again, between, both, Taken, Lost, Keeps, Loses, keeps_pure, keeps_bind, keeps_spelled, keeps_expect, keeps_when, taken_spelled, taken_expect, lost_here, lost_later, lost_yes, lost_no, lost_spelled, lost_expect}
-use Rattle.psl_text.proofs.AlikeTerms.{Local, arguments_keep, arguments_lose}
+use Rattle.psl_text.proofs.Alike.{Alike, seen_again, between, both, Taken, Lost, Keeps, Loses, keeps_pure, keeps_bind, keeps_spelled, keeps_when, taken_spelled, lost_here, lost_later, lost_yes, lost_spelled}
+use Rattle.psl_text.proofs.AlikeTerms.{arguments_keep, arguments_lose}
 use Rattle.psl_text.proofs.AlikeLevels.{term_local, no_longer}
 
 -- ---- one attribute
@@ -172,11 +161,13 @@ later_lost ts next x mid us (Sign.sign {t = c} e) t l = record {
     | zero ↦ λ bound. absurd (omega (arith, bound))
     | suc k ↦ λ bound.
         let same : length ((t.front ++ l.front) ++ vs) ≡ length (t.front ++ (l.front ++ vs)) = ap (λ zs. length zs) (append_assoc t.front l.front vs) in
-        let h = l.again vs k (found ++ x ∷ []) a (omega (arith, bound, same, no_longer t.front (l.front ++ vs))) in
-        (h.0, when_yes kind.At (c ∷ ((t.front ++ l.front) ++ vs)) ((t.front ++ l.front) ++ vs) (each k found) (pure found) at_self (Sign.sign e)
-        ∙ ap (λ zs. each k found zs) (append_assoc t.front l.front vs)
-        ∙ bind_goes (attribute (t.front ++ (l.front ++ vs))) (λ y. attributes_from k (found ++ y ∷ [])) x (l.front ++ vs) (t.again (l.front ++ vs) (between mid l.front us vs l.split a))
-        ∙ h.1)
+        let h = l.again vs k (found ++ x ∷ []) a (omega (arith, bound, same, no_longer t.front (l.front ++ vs))) in (
+          h.0,
+          when_yes kind.At (c ∷ ((t.front ++ l.front) ++ vs)) ((t.front ++ l.front) ++ vs) (each k found) (pure found) at_self (Sign.sign e)
+              ∙ ap (λ zs. each k found zs) (append_assoc t.front l.front vs)
+              ∙ bind_goes (attribute (t.front ++ (l.front ++ vs))) (λ y. attributes_from k (found ++ y ∷ [])) x (l.front ++ vs) (t.again (l.front ++ vs) (between mid l.front us vs l.split a))
+              ∙ h.1,
+        )
   ] small;
 }
 

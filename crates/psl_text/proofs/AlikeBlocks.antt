@@ -1,5 +1,5 @@
 -- Blocks of tokens that begin alike. Where tokens stop, what goes before and the next token derive no blocks.
-use Rattle.std.proofs.Common.{◌≡◌, ◌≢◌, ℕ, zero, suc, ◌<◌, ◌≤◌, true, false, cond, List, [], ◌∷◌, ◌++◌, length, Some, None, Ok, Err, refl, sym, ap, subst, ◌∙◌, arith, append_assoc}
+use Rattle.std.proofs.Common.{◌≡◌, ◌≢◌, ℕ, zero, suc, ◌<◌, ◌≤◌, false, cond, List, [], ◌∷◌, ◌++◌, length, Some, None, Ok, Err, refl, sym, ap, subst, ◌∙◌, arith, append_assoc}
 use Rattle.std.proofs.lemmas.List.{append_cancel_right}
 use Rattle.psl_text.specs.declared.fault.TextFault.{TextFault}
 use Rattle.psl_text.specs.declared.token.Kind.{Kind}
@@ -9,22 +9,21 @@ use Rattle.psl_text.specs.declared.tree.Name.{Name}
 use Rattle.psl_text.specs.declared.tree.Entry.{Entry}
 use Rattle.psl_text.specs.declared.tree.Word.{Word}
 use Rattle.psl_text.specs.declared.tree.Block.{Block}
-use Rattle.psl_text.specs.Parser.{Parser, and_then, ◌>>=◌, ◌>>◌, pure, refuse, kind_of, docs_of, sees, same_kind, eat, expect, name, refusal}
+use Rattle.psl_text.specs.Parser.{and_then, ◌>>=◌, pure, kind_of, docs_of, same_kind, expect, name, refusal}
 use Rattle.psl_text.specs.Grammar.{word_named, ending, entry_of, entries_from, entries, block, blocks_from, blocks}
 use Rattle.psl_text.specs.Derives.{Sign, Spelled, IsEntry, Ends, AreEntries, IsBlock, AreBlocks}
 use Rattle.psl_text.specs.Stops.{Misses}
 use Rattle.psl_text.specs.Faults.{EntryStops, EntriesStop, BlockStops, BlocksStop}
-use Rattle.psl_text.proofs.Steps.{when_yes, when_no, expect_sign, spelled_is, sign_other, sign_shrinks}
+use Rattle.psl_text.proofs.Steps.{when_yes, when_no, expect_sign, spelled_is, sign_other}
 use Rattle.psl_text.proofs.TermRules.{name_self}
-use Rattle.psl_text.proofs.EntryRules.{newline_self, brace_self, entry_ok, entry_is, entry_begins, entries_shrink, ends_follow, ends_is}
+use Rattle.psl_text.proofs.EntryRules.{newline_self, entry_ok, entry_is, entry_begins, entries_shrink, ends_follow, ends_is}
 use Rattle.psl_text.proofs.BlockRules.{open_self, block_is, block_shrinks, block_begins, blocks_is}
 use Rattle.psl_text.proofs.FaultSteps.{ok_not_err, bind_stops, bind_goes, misses_sees, Anything, whole_is}
 use Rattle.psl_text.proofs.FaultEntries.{after_entry, turn, entry_refuses, entry_reaches, ending_stops}
 use Rattle.psl_text.proofs.FaultBlocks as stopping
 use Rattle.psl_text.proofs.FaultBlocks.{behind_brace, behind_name, after_block, word_goes_on, block_stops}
-use Rattle.psl_text.proofs.Alike.{Alike, alike_back, alike_kind, alike_sign, seen_again, both, Taken, Lost}
+use Rattle.psl_text.proofs.Alike.{Alike, alike_kind, alike_sign, seen_again, both, Taken, Lost}
 use Rattle.psl_text.proofs.AlikeTerms.{Moved, LostIn}
-use Rattle.psl_text.proofs.AlikeLevels.{no_longer}
 use Rattle.psl_text.proofs.AlikeEntries.{entry_keeps, entry_loses}
 
 -- a kind that is missed of tokens that begin alike
@@ -82,10 +81,12 @@ module _ (w : Word) where
     again = λ vs n found a. elim n as (λ j. (f : TextFault) × (entries_from w j found (l.front ++ vs) ≡ Err f)) [
       | zero ↦ (refusal (l.front ++ vs), refl)
       | suc k ↦
-          let h = l.again vs a in
-          (h.0, when_no kind.CloseBrace (l.front ++ vs) (pure found) (turn w k found) (seen_again kind.CloseBrace false ts l.front us vs l.split a (misses_sees kind.CloseBrace ts no_brace))
-          ∙ when_no kind.Newline (l.front ++ vs) (entries_from w k found) (entry_of w >>= after_entry w k found) (seen_again kind.Newline false ts l.front us vs l.split a (misses_sees kind.Newline ts no_newline))
-          ∙ bind_stops (entry_of w (l.front ++ vs)) (after_entry w k found) h.0 h.1)
+          let h = l.again vs a in (
+            h.0,
+            when_no kind.CloseBrace (l.front ++ vs) (pure found) (turn w k found) (seen_again kind.CloseBrace false ts l.front us vs l.split a (misses_sees kind.CloseBrace ts no_brace))
+                ∙ when_no kind.Newline (l.front ++ vs) (entries_from w k found) (entry_of w >>= after_entry w k found) (seen_again kind.Newline false ts l.front us vs l.split a (misses_sees kind.Newline ts no_newline))
+                ∙ bind_stops (entry_of w (l.front ++ vs)) (after_entry w k found) h.0 h.1,
+          )
     ];
   }
 
@@ -104,9 +105,11 @@ module _ (w : Word) where
     split = t.split;
     again = λ vs n found a. elim n as (λ j. (f : TextFault) × (entries_from w j found (t.front ++ vs) ≡ Err f)) [
       | zero ↦ (refusal (t.front ++ vs), refl)
-      | suc k ↦
-          (refusal vs, entry_turn ts e us t.front vs k found i t.split a ∙ bind_goes (entry_of w (t.front ++ vs)) (after_entry w k found) e vs (t.again vs a)
-          ∙ bind_stops (ending vs) (λ _. entries_from w k (found ++ e ∷ [])) (refusal vs) (ending_stops vs (λ s. no_newline (alike_kind us vs a ∙ s)) (λ s. no_brace (alike_kind us vs a ∙ s))))
+      | suc k ↦ (
+        refusal vs,
+        entry_turn ts e us t.front vs k found i t.split a ∙ bind_goes (entry_of w (t.front ++ vs)) (after_entry w k found) e vs (t.again vs a)
+            ∙ bind_stops (ending vs) (λ _. entries_from w k (found ++ e ∷ [])) (refusal vs) (ending_stops vs (λ s. no_newline (alike_kind us vs a ∙ s)) (λ s. no_brace (alike_kind us vs a ∙ s))),
+      )
     ];
   }
 
@@ -119,9 +122,11 @@ module _ (w : Word) where
       | zero ↦ (refusal (t ∷ (l.front ++ vs)), refl)
       | suc k ↦
           let h = l.again vs k found a in
-          let s : Sign kind.Newline (t ∷ (l.front ++ vs)) (l.front ++ vs) = Sign.sign e in
-          (h.0, when_no kind.CloseBrace (t ∷ (l.front ++ vs)) (pure found) (turn w k found) (sign_other kind.Newline kind.CloseBrace (t ∷ (l.front ++ vs)) (l.front ++ vs) refl s)
-          ∙ when_yes kind.Newline (t ∷ (l.front ++ vs)) (l.front ++ vs) (entries_from w k found) (entry_of w >>= after_entry w k found) newline_self s ∙ h.1)
+          let s : Sign kind.Newline (t ∷ (l.front ++ vs)) (l.front ++ vs) = Sign.sign e in (
+            h.0,
+            when_no kind.CloseBrace (t ∷ (l.front ++ vs)) (pure found) (turn w k found) (sign_other kind.Newline kind.CloseBrace (t ∷ (l.front ++ vs)) (l.front ++ vs) refl s)
+                ∙ when_yes kind.Newline (t ∷ (l.front ++ vs)) (l.front ++ vs) (entries_from w k found) (entry_of w >>= after_entry w k found) newline_self s ∙ h.1,
+          )
     ];
   }
 
@@ -133,12 +138,14 @@ module _ (w : Word) where
     again = λ vs n found a. elim n as (λ j. (f : TextFault) × (entries_from w j found ((t.front ++ c ∷ l.front) ++ vs) ≡ Err f)) [
       | zero ↦ (refusal ((t.front ++ c ∷ l.front) ++ vs), refl)
       | suc k ↦
-          let h = l.again vs k (found ++ e ∷ []) a in
-          (h.0, ap (λ zs. entries_from w (suc k) found zs) (append_assoc t.front (c ∷ l.front) vs)
-          ∙ entry_turn ts e (c ∷ next) t.front (c ∷ (l.front ++ vs)) k found i t.split Alike.alike
-          ∙ bind_goes (entry_of w (t.front ++ c ∷ (l.front ++ vs))) (after_entry w k found) e (c ∷ (l.front ++ vs)) (t.again (c ∷ (l.front ++ vs)) Alike.alike)
-          ∙ bind_goes (ending (c ∷ (l.front ++ vs))) (λ _. entries_from w k (found ++ e ∷ [])) tt (l.front ++ vs) (ends_is (c ∷ (l.front ++ vs)) (l.front ++ vs) (Ends.newline (Sign.sign s)))
-          ∙ h.1)
+          let h = l.again vs k (found ++ e ∷ []) a in (
+            h.0,
+            ap (λ zs. entries_from w (suc k) found zs) (append_assoc t.front (c ∷ l.front) vs)
+                ∙ entry_turn ts e (c ∷ next) t.front (c ∷ (l.front ++ vs)) k found i t.split Alike.alike
+                ∙ bind_goes (entry_of w (t.front ++ c ∷ (l.front ++ vs))) (after_entry w k found) e (c ∷ (l.front ++ vs)) (t.again (c ∷ (l.front ++ vs)) Alike.alike)
+                ∙ bind_goes (ending (c ∷ (l.front ++ vs))) (λ _. entries_from w k (found ++ e ∷ [])) tt (l.front ++ vs) (ends_is (c ∷ (l.front ++ vs)) (l.front ++ vs) (Ends.newline (Sign.sign s)))
+                ∙ h.1,
+          )
     ];
   }
 
@@ -192,11 +199,13 @@ inner_lost ts mid next inner us b w (Spelled.spelled {t} p) named (Sign.sign {t 
       let tail = l.front ++ vs in
       let n : Name = record { text = u.text; at = u.at } in
       let above = docs_of (t ∷ (u ∷ (v ∷ tail))) in
-      let h = l.again vs (length tail) [] a in
-      (h.0, word_goes_on (t ∷ (u ∷ (v ∷ tail))) (u ∷ (v ∷ tail)) b w (Spelled.spelled p) named
-      ∙ bind_goes (name (u ∷ (v ∷ tail))) (behind_name above w) n (v ∷ tail) (spelled_is kind.Name (u ∷ (v ∷ tail)) (v ∷ tail) n name_self (Spelled.spelled q))
-      ∙ bind_goes (expect kind.OpenBrace (v ∷ tail)) (λ _. behind_brace above w n) tt tail (expect_sign kind.OpenBrace (v ∷ tail) tail open_self (Sign.sign r))
-      ∙ bind_stops (entries w tail) (λ es. pure (record { word = w; name = n; docs = above; entries = es })) h.0 h.1);
+      let h = l.again vs (length tail) [] a in (
+        h.0,
+        word_goes_on (t ∷ (u ∷ (v ∷ tail))) (u ∷ (v ∷ tail)) b w (Spelled.spelled p) named
+            ∙ bind_goes (name (u ∷ (v ∷ tail))) (behind_name above w) n (v ∷ tail) (spelled_is kind.Name (u ∷ (v ∷ tail)) (v ∷ tail) n name_self (Spelled.spelled q))
+            ∙ bind_goes (expect kind.OpenBrace (v ∷ tail)) (λ _. behind_brace above w n) tt tail (expect_sign kind.OpenBrace (v ∷ tail) tail open_self (Sign.sign r))
+            ∙ bind_stops (entries w tail) (λ es. pure (record { word = w; name = n; docs = above; entries = es })) h.0 h.1,
+      );
 }
 
 block_loses : (ts us : List Token) → BlockStops ts us → Lost block ts us
@@ -230,10 +239,12 @@ block_lost ts us no_end no_newline l = record {
   again = λ vs n found a small. elim n as (λ j. length (l.front ++ vs) ≤ j → (f : TextFault) × (blocks_from j found (l.front ++ vs) ≡ Err f)) [
     | zero ↦ λ bound. absurd (omega (arith, bound, some_tokens l.front us vs a))
     | suc k ↦ λ bound.
-        let h = l.again vs a in
-        (h.0, ap (λ x. cond x (Ok (found, l.front ++ vs)) (stopping.turn k found (l.front ++ vs))) (seen_again kind.End false ts l.front us vs l.split a (misses_sees kind.End ts no_end))
-        ∙ when_no kind.Newline (l.front ++ vs) (blocks_from k found) (block >>= after_block k found) (seen_again kind.Newline false ts l.front us vs l.split a (misses_sees kind.Newline ts no_newline))
-        ∙ bind_stops (block (l.front ++ vs)) (after_block k found) h.0 h.1)
+        let h = l.again vs a in (
+          h.0,
+          ap (λ x. cond x (Ok (found, l.front ++ vs)) (stopping.turn k found (l.front ++ vs))) (seen_again kind.End false ts l.front us vs l.split a (misses_sees kind.End ts no_end))
+              ∙ when_no kind.Newline (l.front ++ vs) (blocks_from k found) (block >>= after_block k found) (seen_again kind.Newline false ts l.front us vs l.split a (misses_sees kind.Newline ts no_newline))
+              ∙ bind_stops (block (l.front ++ vs)) (after_block k found) h.0 h.1,
+        )
   ] small;
 }
 
@@ -246,9 +257,11 @@ line_lost ts next us (Sign.sign {t} e) l = record {
     | zero ↦ λ bound. absurd (omega (arith, bound))
     | suc k ↦ λ bound.
         let h = l.again vs k found a (omega (arith, bound)) in
-        let s : Sign kind.Newline (t ∷ (l.front ++ vs)) (l.front ++ vs) = Sign.sign e in
-        (h.0, ap (λ x. cond x (Ok (found, t ∷ (l.front ++ vs))) (stopping.turn k found (t ∷ (l.front ++ vs)))) (sign_other kind.Newline kind.End (t ∷ (l.front ++ vs)) (l.front ++ vs) refl s)
-        ∙ when_yes kind.Newline (t ∷ (l.front ++ vs)) (l.front ++ vs) (blocks_from k found) (block >>= after_block k found) newline_self s ∙ h.1)
+        let s : Sign kind.Newline (t ∷ (l.front ++ vs)) (l.front ++ vs) = Sign.sign e in (
+          h.0,
+          ap (λ x. cond x (Ok (found, t ∷ (l.front ++ vs))) (stopping.turn k found (t ∷ (l.front ++ vs)))) (sign_other kind.Newline kind.End (t ∷ (l.front ++ vs)) (l.front ++ vs) refl s)
+              ∙ when_yes kind.Newline (t ∷ (l.front ++ vs)) (l.front ++ vs) (blocks_from k found) (block >>= after_block k found) newline_self s ∙ h.1,
+        )
   ] small;
 }
 
@@ -264,12 +277,14 @@ later_block_lost ts b mid us m l = record {
         let whole = m.front ++ (l.front ++ vs) in
         let i = m.again (l.front ++ vs) in
         let same : length ((m.front ++ l.front) ++ vs) ≡ length (m.front ++ (l.front ++ vs)) = ap (λ zs. length zs) (append_assoc m.front l.front vs) in
-        let h = l.again vs k (found ++ b ∷ []) a (omega (arith, bound, same, block_shrinks (m.front ++ (l.front ++ vs)) b (l.front ++ vs) i)) in
-        (h.0, ap (λ zs. blocks_from (suc k) found zs) (append_assoc m.front l.front vs)
-        ∙ ap (λ x. cond x (Ok (found, whole)) (stopping.turn k found whole)) (block_begins kind.End whole b tail refl i)
-        ∙ when_no kind.Newline whole (blocks_from k found) (block >>= after_block k found) (block_begins kind.Newline whole b tail refl i)
-        ∙ bind_goes (block whole) (after_block k found) b tail (block_is whole b tail i)
-        ∙ h.1)
+        let h = l.again vs k (found ++ b ∷ []) a (omega (arith, bound, same, block_shrinks (m.front ++ (l.front ++ vs)) b (l.front ++ vs) i)) in (
+          h.0,
+          ap (λ zs. blocks_from (suc k) found zs) (append_assoc m.front l.front vs)
+              ∙ ap (λ x. cond x (Ok (found, whole)) (stopping.turn k found whole)) (block_begins kind.End whole b tail refl i)
+              ∙ when_no kind.Newline whole (blocks_from k found) (block >>= after_block k found) (block_begins kind.Newline whole b tail refl i)
+              ∙ bind_goes (block whole) (after_block k found) b tail (block_is whole b tail i)
+              ∙ h.1,
+        )
   ] small;
 }
 

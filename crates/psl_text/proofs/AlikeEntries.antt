@@ -1,36 +1,24 @@
 -- One entry of tokens that begin alike.
-use Rattle.std.proofs.Common.{◌≡◌, ℕ, zero, suc, ◌<◌, ◌≤◌, false, cond, List, [], ◌∷◌, ◌++◌, length, Ok, Err, inl, inr, refl, sym, ap, subst, ◌∙◌, arith, append_assoc}
-use Rattle.psl_text.specs.declared.fault.TextFault.{TextFault}
+use Rattle.std.proofs.Common.{ℕ, cond, List, ◌++◌, refl, ap, ◌∙◌}
 use Rattle.psl_text.specs.declared.token.Kind.TheVariants as kind
 use Rattle.psl_text.specs.declared.token.Token.{Token}
-use Rattle.psl_text.specs.declared.tree.Name.{Name}
-use Rattle.psl_text.specs.declared.tree.Attribute.{Attribute}
-use Rattle.psl_text.specs.declared.tree.Mark.{Mark}
 use Rattle.psl_text.specs.declared.tree.Mark.TheVariants as mark
 use Rattle.psl_text.specs.declared.tree.Entry.{Entry}
 use Rattle.psl_text.specs.declared.tree.Entry.TheVariants as entry
 use Rattle.psl_text.specs.declared.tree.Word.{Word}
 use Rattle.psl_text.specs.declared.tree.Word.TheVariants as word
-use Rattle.psl_text.specs.Parser.{Parser, ◌>>=◌, ◌>>◌, pure, sees, same_kind, docs_of, eat, expect, name}
-use Rattle.psl_text.specs.Grammar.{max_depth, whole_term, arguments, attribute_name, arguments_if_any, attribute, block_attribute, attributes_from, attributes, mark_of, setting, field, member, of_block, entry_of}
-use Rattle.psl_text.specs.Derives.{Sign, Spelled, IsTerm, IsAttributeName, IsAttribute, IsMark}
-use Rattle.psl_text.specs.Stops.{Misses, TermStops, AttributeNameStops, AttributeStops, AttributesStop}
+use Rattle.psl_text.specs.Parser.{Parser, ◌>>=◌, pure, same_kind, docs_of, eat, expect, name}
+use Rattle.psl_text.specs.Grammar.{max_depth, whole_term, block_attribute, attributes, mark_of, setting, field, member, of_block, entry_of}
 use Rattle.psl_text.specs.Faults.{MarkStops, SettingStops, FieldStops, MemberStops, OfBlockStops, EntryStops}
-use Rattle.psl_text.proofs.Steps.{bind_ok, ok_value, ok_rest, when_ok, when_yes, when_no, sign_other, sign_shrinks}
-use Rattle.psl_text.proofs.TermRules.{stops, name_inside, name_self, paren_inside, paren_self, bracket_inside, bracket_self, close_bracket_inside, close_bracket_self}
-use Rattle.psl_text.proofs.LevelRules.{term_value}
-use Rattle.psl_text.proofs.AttributeRules.{dot_inside, dot_self, at_inside, at_self, stop_at, attribute_name_ok, attribute_name_shrinks, field_attribute_ok, field_attribute_is, field_attribute_shrinks, plain_ok, plain_shrinks}
+use Rattle.psl_text.proofs.Steps.{sign_other}
+use Rattle.psl_text.proofs.TermRules.{name_inside, name_self, bracket_inside, bracket_self, close_bracket_inside, close_bracket_self}
 use Rattle.psl_text.proofs.EntryRules.{question_inside, question_self, equals_inside, equals_self, at_at_inside, at_at_self, mark_is}
-use Rattle.psl_text.proofs.FaultSteps.{bind_stops, bind_goes, misses_sees, sign_spelled, Refuses, Reaches}
-use Rattle.psl_text.proofs.FaultSeparate.{end_misses}
-use Rattle.psl_text.proofs.FaultLevels.{term_judges}
-use Rattle.psl_text.proofs.FaultAttributes.{dotted, behind_name, GivenStops, FieldAttributeStops, each, Apart, called_before, attribute_name_found, attribute_name_stops, attribute_name_reaches, plain_refuses, plain_reaches, stop_begins}
-use Rattle.psl_text.proofs.FaultFields.{closing, no_question, behind_equals, after_name, behind_member, behind_mark, behind_type} 
+use Rattle.psl_text.proofs.FaultSteps.{misses_sees, sign_spelled}
+use Rattle.psl_text.proofs.FaultAttributes.{stop_begins}
+use Rattle.psl_text.proofs.FaultFields.{closing, no_question, behind_equals, after_name, behind_member, behind_mark, behind_type}
 use Rattle.psl_text.proofs.FaultFields as fields
-use Rattle.psl_text.proofs.FaultEntries.{of_attribute}
-use Rattle.psl_text.proofs.Alike.{Alike, docs_again, seen_again, between, both, Taken, Lost, Keeps, Loses, keeps_pure, keeps_bind, keeps_spelled, keeps_expect, keeps_when, taken_spelled, taken_expect, lost_here, lost_later, lost_yes, lost_no, lost_spelled, lost_expect}
-use Rattle.psl_text.proofs.AlikeTerms.{Local, arguments_keep, arguments_lose}
-use Rattle.psl_text.proofs.AlikeLevels.{term_local, no_longer}
+use Rattle.psl_text.proofs.Alike.{docs_again, Lost, Keeps, Loses, keeps_pure, keeps_bind, keeps_spelled, keeps_expect, keeps_when, taken_spelled, taken_expect, lost_here, lost_later, lost_yes, lost_no, lost_spelled, lost_expect}
+use Rattle.psl_text.proofs.AlikeLevels.{term_local}
 use Rattle.psl_text.proofs.AlikeAttributes.{block_attribute_keeps, block_attribute_loses, attributes_keep, attributes_lose}
 
 -- ---- marks

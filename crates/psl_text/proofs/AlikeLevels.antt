@@ -1,5 +1,5 @@
 -- Terms of any depth, of tokens that begin alike.
-use Rattle.std.proofs.Common.{◌≡◌, ℕ, zero, suc, ◌<◌, ◌≤◌, cond, List, [], ◌∷◌, ◌++◌, length, Ok, Err, refl, sym, ap, ◌∙◌, arith}
+use Rattle.std.proofs.Common.{◌≡◌, ℕ, zero, suc, ◌≤◌, cond, List, [], ◌∷◌, ◌++◌, length, Err, refl, ap, ◌∙◌, arith}
 use Rattle.psl_text.specs.declared.fault.TextFault.{TextFault}
 use Rattle.psl_text.specs.declared.token.Kind.{Kind}
 use Rattle.psl_text.specs.declared.token.Kind.TheVariants as kind
@@ -7,7 +7,7 @@ use Rattle.psl_text.specs.declared.token.Token.{Token}
 use Rattle.psl_text.specs.declared.tree.Name.{Name}
 use Rattle.psl_text.specs.declared.tree.Term.{Term}
 use Rattle.psl_text.specs.declared.tree.Term.TheVariants as term
-use Rattle.psl_text.specs.Parser.{Parser, ◌>>=◌, pure, kind_of, same_kind, eat, spelled, name, refusal}
+use Rattle.psl_text.specs.Parser.{Parser, ◌>>=◌, pure, kind_of, eat, spelled, name, refusal}
 use Rattle.psl_text.specs.Grammar.{arguments, items, named_term, term_by, level, term_of}
 use Rattle.psl_text.specs.Derives.{Sign, IsTermOf, IsTerm}
 use Rattle.psl_text.specs.Stops.{TermStopsOf, TermStops}
@@ -17,7 +17,7 @@ use Rattle.psl_text.proofs.LevelRules.{term_value}
 use Rattle.psl_text.proofs.FaultSteps.{sign_spelled}
 use Rattle.psl_text.proofs.FaultTerms.{Judges}
 use Rattle.psl_text.proofs.FaultLevels.{level_judges, term_judges}
-use Rattle.psl_text.proofs.Alike.{Alike, alike_kind, kind_again, Taken, Lost, Keeps, Loses, keeps_pure, keeps_bind, keeps_spelled, keeps_when, taken_spelled, lost_here, lost_later, lost_yes}
+use Rattle.psl_text.proofs.Alike.{alike_kind, kind_again, Lost, Keeps, Loses, keeps_pure, keeps_bind, keeps_spelled, keeps_when, taken_spelled, lost_here, lost_later, lost_yes}
 use Rattle.psl_text.proofs.AlikeTerms.{Local, arguments_keep, arguments_lose, items_keep, items_lose}
 
 pub no_longer : (front us : List Token) → length us ≤ length (front ++ us)

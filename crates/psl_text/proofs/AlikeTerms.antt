@@ -1,5 +1,5 @@
 -- Items, arguments and terms of tokens that begin alike.
-use Rattle.std.proofs.Common.{◌≡◌, ◌≢◌, ℕ, zero, suc, ◌<◌, ◌≤◌, true, false, cond, List, [], ◌∷◌, ◌++◌, length, Option, Some, None, Ok, Err, inl, inr, refl, sym, ap, subst, ◌∙◌, arith, append_assoc}
+use Rattle.std.proofs.Common.{◌≡◌, ◌≢◌, ℕ, zero, suc, ◌<◌, true, false, cond, List, [], ◌∷◌, ◌++◌, length, Option, Some, None, Ok, Err, refl, sym, ap, subst, ◌∙◌, arith, append_assoc}
 use Rattle.psl_text.specs.declared.fault.TextFault.{TextFault}
 use Rattle.psl_text.specs.declared.token.Kind.{Kind}
 use Rattle.psl_text.specs.declared.token.Kind.TheVariants as kind
@@ -7,20 +7,17 @@ use Rattle.psl_text.specs.declared.token.Token.{Token}
 use Rattle.psl_text.specs.declared.tree.Name.{Name}
 use Rattle.psl_text.specs.declared.tree.Argument.{Argument, roll-Argument}
 use Rattle.psl_text.specs.declared.tree.Term.{Term}
-use Rattle.psl_text.specs.declared.tree.Term.TheVariants as term
 use Rattle.psl_text.specs.Scan.{is_fault}
-use Rattle.psl_text.specs.Parser.{Parser, and_then, ◌>>=◌, ◌>>◌, pure, kind_of, sees, same_kind, eat, expect, spelled, name, separated, refusal}
-use Rattle.psl_text.specs.Grammar.{argument_name, argument, arguments, items, named_term, term_by, level, term_of}
-use Rattle.psl_text.specs.Derives.{Sign, Spelled, Separated, IsArgument, IsTermOf, IsTerm}
-use Rattle.psl_text.specs.Stops.{Misses, Whole, SeparatedStops, ArgumentStops, TermStopsOf, TermStops}
-use Rattle.psl_text.proofs.Steps.{bind_ok, ok_rest, IsInside, when_yes, when_no, sign_shrinks, spelled_sees}
+use Rattle.psl_text.specs.Parser.{Parser, ◌>>=◌, ◌>>◌, pure, kind_of, sees, eat, expect, separated, refusal}
+use Rattle.psl_text.specs.Grammar.{argument, arguments, items}
+use Rattle.psl_text.specs.Derives.{Sign, Spelled, Separated, IsArgument}
+use Rattle.psl_text.specs.Stops.{Misses, Whole, SeparatedStops, ArgumentStops}
+use Rattle.psl_text.proofs.Steps.{bind_ok, ok_rest, when_yes, when_no, spelled_sees}
 use Rattle.psl_text.proofs.Separate.{Stops, comma_self}
-use Rattle.psl_text.proofs.TermRules.{IsValue, sign_kind, stops, stop_comma, stop_close_paren, stop_close_bracket, named_yes, argument_ok, argument_is, argument_begins, arguments_ok, arguments_is, items_ok, items_is, name_inside, name_self, text_inside, text_self, number_inside, number_self, bracket_inside, bracket_self, paren_inside, paren_self, close_paren_inside, close_paren_self, close_bracket_inside, close_bracket_self}
-use Rattle.psl_text.proofs.LevelRules.{term_value}
-use Rattle.psl_text.proofs.FaultSteps.{ok_not_err, bind_stops, bind_goes, misses_sees, sign_spelled, expect_misses, Anything, whole_is}
+use Rattle.psl_text.proofs.TermRules.{IsValue, stops, stop_comma, stop_close_paren, stop_close_bracket, named_yes, argument_ok, argument_is, argument_begins, arguments_ok, arguments_is, items_ok, items_is}
+use Rattle.psl_text.proofs.FaultSteps.{ok_not_err, bind_stops, bind_goes, misses_sees, expect_misses, Anything, whole_is}
 use Rattle.psl_text.proofs.FaultTerms.{Judges, IsPlain, Begins, begins, plain_name, named_fault, after_name, no_name, argument_refuses, argument_reaches}
-use Rattle.psl_text.proofs.FaultLevels.{level_judges, term_judges}
-use Rattle.psl_text.proofs.Alike.{Alike, alike_back, alike_behind, alike_kind, alike_sign, seen_again, kind_again, Taken, Lost, Keeps, Loses, both, keeps_pure, keeps_bind, keeps_spelled, keeps_when, taken_spelled, lost_here, lost_later, lost_yes}
+use Rattle.psl_text.proofs.Alike.{Alike, alike_back, alike_behind, alike_kind, alike_sign, seen_again, Taken, Lost, Keeps, Loses, both, keeps_pure, keeps_bind, lost_here}
 
 -- ---- items
 
@@ -86,9 +83,11 @@ module _ {A : Type 0} (Item : List Token → A → List Token → Type 0) (ItemS
     again = λ vs n found a. elim n as (λ j. (e : TextFault) × (separated item close j found (l.front ++ vs) ≡ Err e)) [
       | zero ↦ (refusal (l.front ++ vs), refl)
       | suc k ↦
-          let h = l.again vs a in
-          (h.0, when_no close (l.front ++ vs) (pure found) (item >>= then_on k found) (seen_again close false ts l.front us vs l.split a (misses_sees close ts differs))
-          ∙ bind_stops (item (l.front ++ vs)) (then_on k found) h.0 h.1)
+          let h = l.again vs a in (
+            h.0,
+            when_no close (l.front ++ vs) (pure found) (item >>= then_on k found) (seen_again close false ts l.front us vs l.split a (misses_sees close ts differs))
+                ∙ bind_stops (item (l.front ++ vs)) (then_on k found) h.0 h.1,
+          )
     ];
   }
 
@@ -99,11 +98,13 @@ module _ {A : Type 0} (Item : List Token → A → List Token → Type 0) (ItemS
     split = t.split;
     again = λ vs n found a. elim n as (λ j. (e : TextFault) × (separated item close j found (t.front ++ vs) ≡ Err e)) [
       | zero ↦ (refusal (t.front ++ vs), refl)
-      | suc k ↦
-          (refusal vs, when_no close (t.front ++ vs) (pure found) (item >>= then_on k found) (seen_again close false ts t.front us vs t.split a (is.begins ts x us i))
-          ∙ bind_goes (item (t.front ++ vs)) (then_on k found) x vs (t.again vs a)
-          ∙ when_no kind.Comma vs (separated item close k (found ++ x ∷ [])) (expect close >> pure (found ++ x ∷ [])) (misses_sees kind.Comma vs (λ e. no_comma (alike_kind us vs a ∙ e)))
-          ∙ bind_stops (expect close vs) (λ _. pure (found ++ x ∷ [])) (refusal vs) (expect_misses close vs vs (Misses.misses (λ e. no_close (alike_kind us vs a ∙ e)))))
+      | suc k ↦ (
+        refusal vs,
+        when_no close (t.front ++ vs) (pure found) (item >>= then_on k found) (seen_again close false ts t.front us vs t.split a (is.begins ts x us i))
+            ∙ bind_goes (item (t.front ++ vs)) (then_on k found) x vs (t.again vs a)
+            ∙ when_no kind.Comma vs (separated item close k (found ++ x ∷ [])) (expect close >> pure (found ++ x ∷ [])) (misses_sees kind.Comma vs (λ e. no_comma (alike_kind us vs a ∙ e)))
+            ∙ bind_stops (expect close vs) (λ _. pure (found ++ x ∷ [])) (refusal vs) (expect_misses close vs vs (Misses.misses (λ e. no_close (alike_kind us vs a ∙ e)))),
+      )
     ];
   }
 
@@ -116,12 +117,14 @@ module _ {A : Type 0} (Item : List Token → A → List Token → Type 0) (ItemS
       | zero ↦ (refusal ((t.front ++ c ∷ l.front) ++ vs), refl)
       | suc k ↦
           let h = l.again vs k (found ++ x ∷ []) a in
-          let tail = c ∷ (l.front ++ vs) in
-          (h.0, ap (λ zs. separated item close (suc k) found zs) (append_assoc t.front (c ∷ l.front) vs)
-          ∙ when_no close (t.front ++ tail) (pure found) (item >>= then_on k found) (seen_again close false ts t.front (c ∷ next) tail t.split Alike.alike (is.begins ts x (c ∷ next) i))
-          ∙ bind_goes (item (t.front ++ tail)) (then_on k found) x tail (t.again tail Alike.alike)
-          ∙ when_yes kind.Comma tail (l.front ++ vs) (separated item close k (found ++ x ∷ [])) (expect close >> pure (found ++ x ∷ [])) comma_self (Sign.sign e)
-          ∙ h.1)
+          let tail = c ∷ (l.front ++ vs) in (
+            h.0,
+            ap (λ zs. separated item close (suc k) found zs) (append_assoc t.front (c ∷ l.front) vs)
+                ∙ when_no close (t.front ++ tail) (pure found) (item >>= then_on k found) (seen_again close false ts t.front (c ∷ next) tail t.split Alike.alike (is.begins ts x (c ∷ next) i))
+                ∙ bind_goes (item (t.front ++ tail)) (then_on k found) x tail (t.again tail Alike.alike)
+                ∙ when_yes kind.Comma tail (l.front ++ vs) (separated item close k (found ++ x ∷ [])) (expect close >> pure (found ++ x ∷ [])) comma_self (Sign.sign e)
+                ∙ h.1,
+          )
     ];
   }
 
@@ -205,9 +208,11 @@ module _ (value : Parser Term) (Value : List Token → Term → List Token → T
     front = t ∷ front;
     split = split;
     again = λ vs al.
-        let h = again vs al in
-        (h.0, after_name value Value ValueStops is judges (t ∷ (front ++ vs)) (t ∷ (front ++ vs)) None
-            (plain_name (t ∷ (front ++ vs)) (plain_kept t front us vs al (subst IsPlain split p)) (begins (t ∷ (front ++ vs)))) ∙ h.1);
+        let h = again vs al in (
+          h.0,
+          after_name value Value ValueStops is judges (t ∷ (front ++ vs)) (t ∷ (front ++ vs)) None
+              (plain_name (t ∷ (front ++ vs)) (plain_kept t front us vs al (subst IsPlain split p)) (begins (t ∷ (front ++ vs)))) ∙ h.1,
+        );
   }
 
   named_lost : (ts zs vs us : List Token) → Sign kind.Name ts zs → Sign kind.Colon zs vs → ValueStops vs us → Lost (argument value) ts us
@@ -217,9 +222,11 @@ module _ (value : Parser Term) (Value : List Token → Term → List Token → T
         front = t ∷ (c ∷ l.front);
         split = ap (λ qs. t ∷ (c ∷ qs)) l.split;
         again = λ ws al.
-            let h = l.again ws al in
-            (h.0, after_name value Value ValueStops is judges (t ∷ (c ∷ (l.front ++ ws))) (l.front ++ ws) (Some (record { text = t.text; at = t.at }))
-                (named_yes (t ∷ (c ∷ (l.front ++ ws))) (c ∷ (l.front ++ ws)) (l.front ++ ws) (record { text = t.text; at = t.at }) (Spelled.spelled e) (Sign.sign g)) ∙ h.1);
+            let h = l.again ws al in (
+              h.0,
+              after_name value Value ValueStops is judges (t ∷ (c ∷ (l.front ++ ws))) (l.front ++ ws) (Some (record { text = t.text; at = t.at }))
+                  (named_yes (t ∷ (c ∷ (l.front ++ ws))) (c ∷ (l.front ++ ws)) (l.front ++ ws) (record { text = t.text; at = t.at }) (Spelled.spelled e) (Sign.sign g)) ∙ h.1,
+            );
       }
 
   no_token_lost : (ts us : List Token) → Sign kind.Name ts us → is_fault (kind_of us) ≡ true → Lost (argument value) ts us

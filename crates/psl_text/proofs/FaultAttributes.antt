@@ -1,5 +1,5 @@
 -- Attributes: what is refused stops so, and what stops is refused so.
-use Rattle.std.proofs.Common.{◌≡◌, ℕ, zero, suc, ◌<◌, ◌≤◌, true, false, cond, List, [], ◌∷◌, ◌++◌, length, Ok, Err, ◌⊎◌, inl, inr, refl, sym, ap, subst, ◌∙◌, arith, append_assoc}
+use Rattle.std.proofs.Common.{◌≡◌, ℕ, zero, suc, ◌<◌, ◌≤◌, false, cond, List, [], ◌∷◌, ◌++◌, length, Ok, Err, ◌⊎◌, inl, inr, refl, sym, ap, subst, ◌∙◌, arith, append_assoc}
 use Rattle.std.proofs.lemmas.List.{append-nil}
 use Rattle.psl_text.specs.declared.fault.TextFault.{TextFault}
 use Rattle.psl_text.specs.declared.token.Kind.TheVariants as kind
@@ -7,13 +7,12 @@ use Rattle.psl_text.specs.declared.token.Token.{Token}
 use Rattle.psl_text.specs.declared.tree.Name.{Name}
 use Rattle.psl_text.specs.declared.tree.Argument.{Argument}
 use Rattle.psl_text.specs.declared.tree.Attribute.{Attribute}
-use Rattle.psl_text.specs.Parser.{Parser, and_then, ◌>>=◌, pure, sees, same_kind, kind_of, eat, name, refusal}
+use Rattle.psl_text.specs.Parser.{Parser, ◌>>=◌, pure, sees, same_kind, eat, name, refusal}
 use Rattle.psl_text.specs.Grammar.{max_depth, whole_term, arguments, attribute_name, arguments_if_any, attribute, block_attribute, attributes_from, attributes}
 use Rattle.psl_text.specs.Derives.{Sign, Spelled, IsArgument, IsTerm, IsAttributeName, MayHaveArguments, IsAttribute, AreAttributes}
 use Rattle.psl_text.specs.Stops.{Misses, SeparatedStops, ArgumentStops, TermStops, AttributeNameStops, AttributeStops, AttributesStop}
 use Rattle.psl_text.proofs.Steps.{bind_ok, ok_rest, when_yes, when_no, spelled_ok, spelled_is, spelled_sees, sign_sees, sign_other, sign_shrinks}
-use Rattle.psl_text.proofs.Separate.{Stops}
-use Rattle.psl_text.proofs.TermRules.{sign_kind, stops, arguments_ok, arguments_is, argument_shrinks, name_inside, name_self, paren_inside, paren_self}
+use Rattle.psl_text.proofs.TermRules.{stops, arguments_ok, arguments_is, argument_shrinks, name_inside, name_self, paren_inside, paren_self}
 use Rattle.psl_text.proofs.LevelRules.{term_value, separated_shrinks}
 use Rattle.psl_text.proofs.AttributeRules.{dot_inside, dot_self, at_inside, at_self, stop_at, attribute_name_ok, attribute_name_is, attribute_name_shrinks, if_any_ok, if_any_shrinks, field_attribute_ok, field_attribute_is, field_attribute_shrinks, plain_ok, plain_shrinks, attributes_from_ok, attributes_shrink}
 use Rattle.psl_text.proofs.FaultSteps.{ok_not_err, bind_err, bind_stops, bind_goes, when_split, next_is, spelled_err, spelled_misses, sign_spelled, Refuses, Further, Reaches, Anything}

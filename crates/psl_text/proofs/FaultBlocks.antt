@@ -1,17 +1,17 @@
 -- Blocks: what is refused stops so, and what stops is refused so.
-use Rattle.std.proofs.Common.{◌≡◌, ◌≢◌, ℕ, zero, suc, ◌<◌, ◌≤◌, Bool, true, false, cond, List, [], ◌∷◌, ◌++◌, length, Option, Some, None, Ok, Err, ◌⊎◌, inl, inr, refl, sym, ap, subst, ◌∙◌, arith}
+use Rattle.std.proofs.Common.{◌≡◌, ℕ, zero, suc, ◌<◌, ◌≤◌, Bool, true, false, cond, List, [], ◌∷◌, ◌++◌, length, Option, Some, None, Ok, Err, inl, inr, refl, sym, ap, ◌∙◌, arith}
 use Rattle.psl_text.specs.declared.fault.TextFault.{TextFault}
 use Rattle.psl_text.specs.declared.token.Kind.TheVariants as kind
 use Rattle.psl_text.specs.declared.token.Token.{Token}
 use Rattle.psl_text.specs.declared.tree.Name.{Name}
 use Rattle.psl_text.specs.declared.tree.Word.{Word}
 use Rattle.psl_text.specs.declared.tree.Block.{Block}
-use Rattle.psl_text.specs.Parser.{Outcome, Parser, and_then, ◌>>=◌, ◌>>◌, pure, refuse, sees, same_kind, kind_of, text_of, docs_of, rest_of, eat, expect, name, refusal}
+use Rattle.psl_text.specs.Parser.{Parser, ◌>>=◌, ◌>>◌, pure, refuse, sees, same_kind, kind_of, text_of, docs_of, rest_of, eat, expect, name, refusal}
 use Rattle.psl_text.specs.Grammar.{word_named, word_by, word_of, entries, block, blocks_from, blocks}
-use Rattle.psl_text.specs.Derives.{Sign, Spelled, IsBlock}
+use Rattle.psl_text.specs.Derives.{Spelled, IsBlock}
 use Rattle.psl_text.specs.Stops.{Misses}
-use Rattle.psl_text.specs.Faults.{EntriesStop, BlockStops, BlocksStop}
-use Rattle.psl_text.proofs.Steps.{when_yes, when_no, expect_ok, expect_sign, spelled_ok, spelled_is, spelled_sees, sees_sign, sign_sees, sign_other, sign_shrinks}
+use Rattle.psl_text.specs.Faults.{BlockStops, BlocksStop}
+use Rattle.psl_text.proofs.Steps.{when_yes, when_no, expect_ok, expect_sign, spelled_ok, spelled_is, spelled_sees, sees_sign, sign_other, sign_shrinks}
 use Rattle.psl_text.proofs.TermRules.{name_inside, name_self}
 use Rattle.psl_text.proofs.EntryRules.{newline_inside, newline_self}
 use Rattle.psl_text.proofs.BlockRules.{open_inside, open_self, word_ok, word_is, block_ok, block_is, block_shrinks, block_begins}

@@ -9,12 +9,12 @@ use Rattle.psl_text.specs.declared.tree.Entry.{Entry}
 use Rattle.psl_text.specs.declared.tree.Entry.TheVariants as entry
 use Rattle.psl_text.specs.declared.tree.Word.{Word}
 use Rattle.psl_text.specs.declared.tree.Word.TheVariants as word
-use Rattle.psl_text.specs.Parser.{Parser, and_then, ◌>>=◌, ◌>>◌, pure, sees, same_kind, kind_of, docs_of, eat, expect, name, refusal}
-use Rattle.psl_text.specs.Grammar.{block_attribute, setting, field, member, of_block, entry_of, ending, entries_from, entries}
+use Rattle.psl_text.specs.Parser.{Parser, ◌>>=◌, ◌>>◌, pure, sees, same_kind, kind_of, docs_of, eat, expect, refusal}
+use Rattle.psl_text.specs.Grammar.{block_attribute, field, member, of_block, entry_of, ending, entries_from, entries}
 use Rattle.psl_text.specs.Derives.{Sign, Spelled, IsAttribute, IsEntry, Ends}
-use Rattle.psl_text.specs.Stops.{Misses, Whole}
+use Rattle.psl_text.specs.Stops.{Misses}
 use Rattle.psl_text.specs.Faults.{SettingStops, FieldStops, MemberStops, OfBlockStops, EntryStops, EntriesStop}
-use Rattle.psl_text.proofs.Steps.{IsInside, bind_ok, ok_rest, when_yes, when_no, expect_sign, sign_sees, sees_sign, sign_other, sign_shrinks}
+use Rattle.psl_text.proofs.Steps.{bind_ok, ok_rest, when_yes, when_no, sign_sees, sign_other, sign_shrinks}
 use Rattle.psl_text.proofs.TermRules.{name_inside, sign_kind}
 use Rattle.psl_text.proofs.EntryRules.{at_at_inside, at_at_self, newline_inside, newline_self, brace_inside, brace_self, of_block_other, entry_ok, entry_is, entry_begins, entry_shrinks, ends_ok, ends_is, ends_follow, ends_shrink}
 use Rattle.psl_text.proofs.FaultSteps.{refused, ok_not_err, faults_same, bind_err, bind_stops, bind_goes, sees_misses, misses_sees, when_split, expect_err, expect_misses, Refuses, Further, Reaches, Anything, whole_read, whole_is}

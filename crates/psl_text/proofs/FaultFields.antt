@@ -1,5 +1,5 @@
 -- Settings, members and fields: what is refused stops so, and what stops is refused so.
-use Rattle.std.proofs.Common.{◌≡◌, ℕ, ◌<◌, false, cond, List, [], length, Ok, Err, ◌⊎◌, inl, inr, refl, sym, ap, subst, ◌∙◌, arith}
+use Rattle.std.proofs.Common.{◌≡◌, ℕ, ◌<◌, false, cond, List, length, Ok, Err, ◌⊎◌, inl, inr, refl, sym, subst, ◌∙◌, arith}
 use Rattle.psl_text.specs.declared.fault.TextFault.{TextFault}
 use Rattle.psl_text.specs.declared.token.Kind.TheVariants as kind
 use Rattle.psl_text.specs.declared.token.Token.{Token}
@@ -10,21 +10,17 @@ use Rattle.psl_text.specs.declared.tree.Mark.TheVariants as mark
 use Rattle.psl_text.specs.declared.tree.Entry.{Entry}
 use Rattle.psl_text.specs.declared.tree.Entry.TheVariants as entry
 use Rattle.psl_text.specs.declared.tree.Term.{Term}
-use Rattle.psl_text.specs.declared.tree.Word.{Word}
-use Rattle.psl_text.specs.declared.tree.Word.TheVariants as word
-use Rattle.psl_text.specs.Parser.{Parser, and_then, ◌>>=◌, ◌>>◌, pure, sees, same_kind, docs_of, eat, expect, name, refusal}
-use Rattle.psl_text.specs.Grammar.{max_depth, whole_term, block_attribute, attributes, mark_of, setting, field, member, of_block, entry_of}
-use Rattle.psl_text.specs.Derives.{Sign, Spelled, IsTerm, IsAttribute, IsMark, AreAttributes, IsEntry}
-use Rattle.psl_text.specs.Stops.{TermStops}
-use Rattle.psl_text.specs.Faults.{MarkStops, SettingStops, FieldStops, MemberStops, OfBlockStops, EntryStops}
+use Rattle.psl_text.specs.Parser.{Parser, ◌>>=◌, ◌>>◌, pure, sees, same_kind, eat, expect, name, refusal}
+use Rattle.psl_text.specs.Grammar.{max_depth, whole_term, attributes, mark_of, setting, field, member}
+use Rattle.psl_text.specs.Derives.{Sign, Spelled, IsTerm, IsMark, AreAttributes}
+use Rattle.psl_text.specs.Faults.{MarkStops, SettingStops, FieldStops, MemberStops}
 use Rattle.psl_text.proofs.Steps.{bind_ok, ok_rest, when_yes, when_no, expect_ok, expect_sign, spelled_ok, spelled_is, spelled_sees, sign_other, sign_shrinks}
 use Rattle.psl_text.proofs.TermRules.{name_inside, name_self, bracket_inside, bracket_self, close_bracket_inside, close_bracket_self}
-use Rattle.psl_text.proofs.LevelRules.{term_value}
 use Rattle.psl_text.proofs.AttributeRules.{attributes_ok, attributes_shrink}
-use Rattle.psl_text.proofs.EntryRules.{question_inside, question_self, equals_inside, equals_self, at_at_inside, at_at_self, mark_ok, mark_is, of_block_other}
-use Rattle.psl_text.proofs.FaultSteps.{ok_not_err, bind_err, bind_stops, bind_goes, sees_misses, misses_sees, when_split, next_is, expect_err, expect_misses, spelled_err, spelled_misses, sign_spelled, Refuses, Further, Reaches, Anything}
+use Rattle.psl_text.proofs.EntryRules.{question_inside, question_self, equals_inside, equals_self, mark_ok, mark_is}
+use Rattle.psl_text.proofs.FaultSteps.{ok_not_err, bind_err, bind_stops, bind_goes, when_split, next_is, expect_err, expect_misses, spelled_err, spelled_misses, sign_spelled, Refuses, Further, Reaches, Anything}
 use Rattle.psl_text.proofs.FaultLevels.{term_judges}
-use Rattle.psl_text.proofs.FaultAttributes.{stop_begins, block_attribute_refuses, block_attribute_reaches, attributes_refuse, attributes_reach, no_attributes}
+use Rattle.psl_text.proofs.FaultAttributes.{stop_begins, attributes_refuse, attributes_reach, no_attributes}
 
 -- ---- marks
 

@@ -1,5 +1,5 @@
 -- Arguments and terms: what is refused stops so, and what stops is refused so.
-use Rattle.std.proofs.Common.{◌≡◌, ◌≢◌, ℕ, zero, suc, ◌<◌, ◌≤◌, Bool, true, false, cond, List, [], ◌∷◌, length, Option, Some, None, Ok, Err, ◌⊎◌, inl, inr, refl, sym, ap, subst, ◌∙◌, arith}
+use Rattle.std.proofs.Common.{◌≡◌, ◌≢◌, ◌<◌, Bool, true, false, cond, List, [], length, Option, Some, None, Ok, Err, ◌⊎◌, inl, inr, refl, sym, ap, subst, ◌∙◌, arith}
 use Rattle.psl_text.specs.declared.fault.TextFault.{TextFault}
 use Rattle.psl_text.specs.declared.token.Kind.{Kind}
 use Rattle.psl_text.specs.declared.token.Kind.TheVariants as kind
@@ -8,13 +8,12 @@ use Rattle.psl_text.specs.declared.tree.Name.{Name}
 use Rattle.psl_text.specs.declared.tree.Term.{Term}
 use Rattle.psl_text.specs.declared.tree.Argument.{Argument, roll-Argument}
 use Rattle.psl_text.specs.Scan.{is_fault}
-use Rattle.psl_text.specs.Parser.{Outcome, Parser, and_then, ◌>>=◌, pure, sees, same_kind, kind_of, rest_of, refusal}
+use Rattle.psl_text.specs.Parser.{Parser, ◌>>=◌, pure, sees, same_kind, kind_of, rest_of, refusal}
 use Rattle.psl_text.specs.Grammar.{named_by, argument_name, argument, arguments, items}
-use Rattle.psl_text.specs.Derives.{Sign, Spelled, Separated, IsArgument}
+use Rattle.psl_text.specs.Derives.{Sign, Spelled, IsArgument}
 use Rattle.psl_text.specs.Stops.{ArgumentStops, SeparatedStops}
-use Rattle.psl_text.proofs.Steps.{bind_ok, ok_rest, sees_sign, sign_sees, sign_other, sign_shrinks, spelled_sees}
-use Rattle.psl_text.proofs.Separate.{Stops}
-use Rattle.psl_text.proofs.TermRules.{IsValue, IsStop, sign_kind, stops, stop_comma, named_yes, unnamed_name, argument_ok, argument_is, argument_begins, argument_shrinks, name_inside, name_self, colon_inside, colon_self, close_paren_inside, close_bracket_inside}
+use Rattle.psl_text.proofs.Steps.{bind_ok, ok_rest, sees_sign, sign_sees, sign_shrinks, spelled_sees}
+use Rattle.psl_text.proofs.TermRules.{IsValue, sign_kind, stops, stop_comma, named_yes, unnamed_name, argument_ok, argument_is, argument_begins, argument_shrinks, name_inside, name_self, colon_inside, close_paren_inside, close_bracket_inside}
 use Rattle.psl_text.proofs.FaultSteps.{refused, ok_not_err, faults_same, bind_err, bind_stops, bind_goes, sees_misses, kind_other, sign_spelled, rests_same, next_is, Refuses, Further, Reaches, Anything}
 use Rattle.psl_text.proofs.FaultSeparate.{separated_found, separated_stops}
 

@@ -7,7 +7,6 @@ use Rattle.psl_text.specs.declared.token.Kind.TheVariants as kind
 use Rattle.psl_text.specs.declared.token.Token.{Token}
 use Rattle.psl_text.specs.declared.tree.Name.{Name}
 use Rattle.psl_text.specs.declared.tree.Mark.{Mark}
-use Rattle.psl_text.specs.declared.tree.Attribute.{Attribute}
 use Rattle.psl_text.specs.declared.tree.Entry.{Entry}
 use Rattle.psl_text.specs.declared.tree.Word.{Word}
 use Rattle.psl_text.specs.declared.tree.Word.TheVariants as word

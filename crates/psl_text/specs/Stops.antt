@@ -1,22 +1,16 @@
 -- Where tokens stop fitting the grammar, by its rules: what is left of them from the first one that fits no more. A rule
 -- says nothing of how a text is read.
-use Rattle.std.specs.Prelude.{◌≡◌, ◌≢◌, ◌≤◌, ℕ, zero, suc, false, true, List, length, Some, None}
+use Rattle.std.specs.Prelude.{◌≡◌, ◌≢◌, ◌≤◌, ℕ, zero, suc, false, true, List, length}
 use Rattle.psl_text.specs.declared.token.Kind.{Kind}
 use Rattle.psl_text.specs.declared.token.Kind.TheVariants as kind
 use Rattle.psl_text.specs.declared.token.Token.{Token}
 use Rattle.psl_text.specs.declared.tree.Name.{Name}
 use Rattle.psl_text.specs.declared.tree.Term.{Term}
-use Rattle.psl_text.specs.declared.tree.Argument.{Argument}
 use Rattle.psl_text.specs.declared.tree.Attribute.{Attribute}
-use Rattle.psl_text.specs.declared.tree.Mark.{Mark}
-use Rattle.psl_text.specs.declared.tree.Entry.{Entry}
-use Rattle.psl_text.specs.declared.tree.Word.{Word}
-use Rattle.psl_text.specs.declared.tree.Word.TheVariants as word
-use Rattle.psl_text.specs.declared.tree.Block.{Block}
 use Rattle.psl_text.specs.Scan.{is_fault}
 use Rattle.psl_text.specs.Parser.{kind_of}
-use Rattle.psl_text.specs.Grammar.{max_depth, word_named}
-use Rattle.psl_text.specs.Derives.{Sign, Spelled, Separated, IsArgument, IsTerm, IsAttributeName, IsAttribute, IsMark, AreAttributes, IsEntry, IsBlock}
+use Rattle.psl_text.specs.Grammar.{max_depth}
+use Rattle.psl_text.specs.Derives.{Sign, Spelled, IsArgument, IsTerm, IsAttributeName, IsAttribute}
 
 -- ---- tokens
 
