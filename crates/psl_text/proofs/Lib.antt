@@ -28,4 +28,5 @@ pub mod AlikeTerms
 pub mod AlikeLevels
 pub mod AlikeAttributes
 pub mod AlikeEntries
+pub mod AlikeRuns
 pub mod AlikeBlocks
