@@ -1,9 +1,8 @@
 -- Blocks and whole texts: what is read is derived, and what is derived is read.
-use Rattle.std.proofs.Common.{◌≡◌, ◌≢◌, ℕ, zero, suc, ◌<◌, ◌≤◌, Bool, true, false, cond, List, [], ◌∷◌, ◌++◌, length, Option, Some, None, Result, Ok, Err, inl, inr, refl, sym, ap, subst, ◌∙◌, arith, append_assoc}
+use Rattle.std.proofs.Common.{◌≡◌, ℕ, zero, suc, ◌<◌, ◌≤◌, Bool, true, false, cond, List, [], ◌∷◌, ◌++◌, length, Option, Some, None, Result, Ok, Err, inl, inr, refl, sym, ap, subst, ◌∙◌, arith, append_assoc}
 use Rattle.std.proofs.lemmas.List.{append-nil}
-use Rattle.std.specs.Prelude.{IfOk, IfErr, OnOk}
+use Rattle.std.specs.Prelude.{IfOk, OnOk}
 use Rattle.psl_text.specs.declared.fault.TextFault.{TextFault}
-use Rattle.psl_text.specs.declared.fault.TextFault.TheVariants as fault
 use Rattle.psl_text.specs.declared.token.Kind.{Kind}
 use Rattle.psl_text.specs.declared.token.Kind.TheVariants as kind
 use Rattle.psl_text.specs.declared.token.Token.{Token}
@@ -15,7 +14,6 @@ use Rattle.psl_text.specs.Lex.{tokens_of}
 use Rattle.psl_text.specs.Parser.{Outcome, Parser, and_then, ◌>>=◌, ◌>>◌, pure, refuse, sees, same_kind, kind_of, text_of, docs_of, rest_of, eat, expect, name}
 use Rattle.psl_text.specs.Grammar.{word_named, word_by, word_of, entries, block, blocks_from, blocks, with_length, tree_of, Answers}
 use Rattle.psl_text.specs.Derives.{Spelled, IsBlock, AreBlocks, IsText, HasTree}
-use Rattle.psl_text.specs.Faults.{HasFault}
 use Rattle.psl_text.proofs.Steps.{bind_ok, done, ok_value, ok_rest, IsInside, when_ok, when_yes, when_no, expect_ok, expect_sign, spelled_ok, spelled_is, spelled_sees, sign_other, sign_shrinks, kinds_same}
 use Rattle.psl_text.proofs.TermRules.{name_inside, name_self}
 use Rattle.psl_text.proofs.AttributeRules.{finish}
@@ -144,7 +142,7 @@ blocks_ok : (ts : List Token) (xs : List Block) (rest : List Token) → blocks t
 unfolding blocks
 blocks_ok ts xs rest e = let found = blocks_from_ok (length ts) [] ts xs rest e in subst (λ ys. AreBlocks ts ys rest) (sym found.1) found.2
 
-blocks_is : (ts : List Token) (xs : List Block) (rest : List Token) → AreBlocks ts xs rest → blocks ts ≡ Ok (xs, rest)
+pub blocks_is : (ts : List Token) (xs : List Block) (rest : List Token) → AreBlocks ts xs rest → blocks ts ≡ Ok (xs, rest)
 unfolding blocks
 blocks_is ts xs rest d = blocks_from_is (length ts) [] ts xs rest d (omega arith)
 

@@ -1,5 +1,5 @@
 -- Attributes: what is refused stops so, and what stops is refused so.
-use Rattle.std.proofs.Common.{◌≡◌, ℕ, zero, suc, ◌<◌, ◌≤◌, true, false, cond, List, [], ◌∷◌, ◌++◌, length, Ok, Err, ◌⊎◌, inl, inr, refl, sym, ap, subst, ◌∙◌, arith, append_assoc}
+use Rattle.std.proofs.Common.{◌≡◌, ℕ, zero, suc, ◌<◌, ◌≤◌, false, cond, List, [], ◌∷◌, ◌++◌, length, Ok, Err, ◌⊎◌, inl, inr, refl, sym, ap, subst, ◌∙◌, arith, append_assoc}
 use Rattle.std.proofs.lemmas.List.{append-nil}
 use Rattle.psl_text.specs.declared.fault.TextFault.{TextFault}
 use Rattle.psl_text.specs.declared.token.Kind.TheVariants as kind
@@ -7,13 +7,12 @@ use Rattle.psl_text.specs.declared.token.Token.{Token}
 use Rattle.psl_text.specs.declared.tree.Name.{Name}
 use Rattle.psl_text.specs.declared.tree.Argument.{Argument}
 use Rattle.psl_text.specs.declared.tree.Attribute.{Attribute}
-use Rattle.psl_text.specs.Parser.{Parser, and_then, ◌>>=◌, pure, sees, same_kind, kind_of, eat, name, refusal}
+use Rattle.psl_text.specs.Parser.{Parser, ◌>>=◌, pure, sees, same_kind, eat, name, refusal}
 use Rattle.psl_text.specs.Grammar.{max_depth, whole_term, arguments, attribute_name, arguments_if_any, attribute, block_attribute, attributes_from, attributes}
 use Rattle.psl_text.specs.Derives.{Sign, Spelled, IsArgument, IsTerm, IsAttributeName, MayHaveArguments, IsAttribute, AreAttributes}
 use Rattle.psl_text.specs.Stops.{Misses, SeparatedStops, ArgumentStops, TermStops, AttributeNameStops, AttributeStops, AttributesStop}
 use Rattle.psl_text.proofs.Steps.{bind_ok, ok_rest, when_yes, when_no, spelled_ok, spelled_is, spelled_sees, sign_sees, sign_other, sign_shrinks}
-use Rattle.psl_text.proofs.Separate.{Stops}
-use Rattle.psl_text.proofs.TermRules.{sign_kind, stops, arguments_ok, arguments_is, argument_shrinks, name_inside, name_self, paren_inside, paren_self}
+use Rattle.psl_text.proofs.TermRules.{stops, arguments_ok, arguments_is, argument_shrinks, name_inside, name_self, paren_inside, paren_self}
 use Rattle.psl_text.proofs.LevelRules.{term_value, separated_shrinks}
 use Rattle.psl_text.proofs.AttributeRules.{dot_inside, dot_self, at_inside, at_self, stop_at, attribute_name_ok, attribute_name_is, attribute_name_shrinks, if_any_ok, if_any_shrinks, field_attribute_ok, field_attribute_is, field_attribute_shrinks, plain_ok, plain_shrinks, attributes_from_ok, attributes_shrink}
 use Rattle.psl_text.proofs.FaultSteps.{ok_not_err, bind_err, bind_stops, bind_goes, when_split, next_is, spelled_err, spelled_misses, sign_spelled, Refuses, Further, Reaches, Anything}
@@ -23,10 +22,10 @@ use Rattle.psl_text.proofs.FaultLevels.{term_judges}
 -- ---- names
 
 -- a name behind a dot
-abbrev dotted : Name → Parser Name
+abbrev pub dotted : Name → Parser Name
 dotted m = name >>= λ second. pure (record { text = m.text ++ 46 ∷ second.text; at = m.at })
 
-abbrev behind_name : Name → Parser Name
+abbrev pub behind_name : Name → Parser Name
 behind_name m = eat kind.Dot >>= λ dots. cond dots (dotted m) (pure m)
 
 -- neither arguments nor an attribute begins here
@@ -38,7 +37,7 @@ dot_apart : (ts us : List Token) → Sign kind.Dot ts us → Apart ts
 unfolding same_kind
 dot_apart ts us s = record { no_paren = sign_other kind.Dot kind.OpenParen ts us refl s; no_at = sign_other kind.Dot kind.At ts us refl s }
 
-attribute_name_found : (ts : List Token) (e : TextFault) → attribute_name ts ≡ Err e → (us : List Token) × AttributeNameStops ts us × (e ≡ refusal us)
+pub attribute_name_found : (ts : List Token) (e : TextFault) → attribute_name ts ≡ Err e → (us : List Token) × AttributeNameStops ts us × (e ≡ refusal us)
 unfolding attribute_name
 attribute_name_found ts e h = elim (bind_err (name ts) behind_name e h) [
   | inl bad ↦ let found = spelled_err kind.Name ts e bad in (found.0, AttributeNameStops.name found.1, found.2)
@@ -58,14 +57,14 @@ dot_goes_on : (ts us vs : List Token) (n : Name) → Spelled kind.Name ts n us �
 unfolding attribute_name
 dot_goes_on ts us vs n s d = bind_goes (name ts) behind_name n us (spelled_is kind.Name ts us n name_self s) ∙ when_yes kind.Dot us vs (dotted n) (pure n) dot_self d
 
-attribute_name_stops : (ts us : List Token) → AttributeNameStops ts us → attribute_name ts ≡ Err (refusal us)
+pub attribute_name_stops : (ts us : List Token) → AttributeNameStops ts us → attribute_name ts ≡ Err (refusal us)
 unfolding attribute_name
 attribute_name_stops ts us (AttributeNameStops.name m) = bind_stops (name ts) behind_name (refusal us) (spelled_misses kind.Name ts us m)
 attribute_name_stops ts rest (AttributeNameStops.dotted {us} {vs} s d m) =
     let n = sign_spelled kind.Name ts us s in
     dot_goes_on ts us vs n.0 n.1 d ∙ bind_stops (name vs) (λ second. pure (record { text = n.0.text ++ 46 ∷ second.text; at = n.0.at })) (refusal rest) (spelled_misses kind.Name vs rest m)
 
-attribute_name_reaches : Reaches attribute_name Apart IsAttributeName
+pub attribute_name_reaches : Reaches attribute_name Apart IsAttributeName
 attribute_name_reaches ts n rest (IsAttributeName.plain s) = elim (next_is kind.Dot rest dot_inside) [
   | inr none ↦ inl (attribute_name_is ts n rest (IsAttributeName.plain s) none)
   | inl dots ↦ inr (record {
@@ -81,15 +80,15 @@ attribute_name_reaches ts n rest (IsAttributeName.plain s) = elim (next_is kind.
 attribute_name_reaches ts n rest (IsAttributeName.dotted {us} {vs} {n = first} {m} s d t) =
     inl (dot_goes_on ts us vs first s d ∙ bind_goes (name vs) (λ second. pure (record { text = first.text ++ 46 ∷ second.text; at = first.at })) m rest (spelled_is kind.Name vs rest m name_self t))
 
-plain_refuses : Refuses name (Misses kind.Name)
+pub plain_refuses : Refuses name (Misses kind.Name)
 plain_refuses = record { found = λ ts e h. spelled_err kind.Name ts e h; stops = λ ts us m. spelled_misses kind.Name ts us m }
 
-plain_reaches : Reaches name Apart (Spelled kind.Name)
+pub plain_reaches : Reaches name Apart (Spelled kind.Name)
 plain_reaches ts n rest s = inl (spelled_is kind.Name ts rest n name_self s)
 
 -- ---- arguments
 
-abbrev GivenStops : List Token → List Token → Type 0
+abbrev pub GivenStops : List Token → List Token → Type 0
 GivenStops = SeparatedStops (IsArgument (IsTerm max_depth)) (ArgumentStops (TermStops max_depth)) kind.CloseParen
 
 given_refuse : Refuses (arguments whole_term) GivenStops
@@ -127,10 +126,10 @@ no_arguments ts xs rest (MayHaveArguments.some {us} p d) e = let seen = (sign_se
 
 module _ (called : Parser Name) (Called : List Token → Name → List Token → Type 0) (CalledStops : List Token → List Token → Type 0) (called_ok : (ts : List Token) (n : Name) (us : List Token) → called ts ≡ Ok (n, us) → Called ts n us)
     (called_refuses : Refuses called CalledStops) (called_reaches : Reaches called Apart Called) (called_shrinks : (ts : List Token) (n : Name) (us : List Token) → Called ts n us → length us < length ts) where
-  abbrev behind_called : Name → Parser Attribute
+  abbrev pub behind_called : Name → Parser Attribute
   behind_called n = arguments_if_any >>= λ given. pure (record { name = n; arguments = given })
 
-  abbrev attribute_by : Parser Attribute
+  abbrev pub attribute_by : Parser Attribute
   attribute_by = called >>= behind_called
 
   attribute_found : (ts : List Token) (e : TextFault) → attribute_by ts ≡ Err e → (us : List Token) × AttributeStops Called CalledStops ts us × (e ≡ refusal us)
@@ -143,7 +142,7 @@ module _ (called : Parser Name) (Called : List Token → Name → List Token →
   ]
 
   -- a name before an opening parenthesis
-  called_before : (ts us vs : List Token) (n : Name) → Called ts n us → Sign kind.OpenParen us vs → called ts ≡ Ok (n, us)
+  pub called_before : (ts us vs : List Token) (n : Name) → Called ts n us → Sign kind.OpenParen us vs → called ts ≡ Ok (n, us)
   called_before ts us vs n c p = elim (called_reaches ts n us c) [
     | inl e ↦ e
     | inr f ↦ let seen = (sign_sees kind.OpenParen us vs paren_self p).0 in let other = f.left.no_paren in absurd (cc)
@@ -184,14 +183,14 @@ module _ (called : Parser Name) (Called : List Token → Name → List Token →
         })
   ]
 
-abbrev FieldAttributeStops : List Token → List Token → Type 0
+abbrev pub FieldAttributeStops : List Token → List Token → Type 0
 FieldAttributeStops = AttributeStops IsAttributeName AttributeNameStops
 
-field_attribute_refuses : Refuses attribute FieldAttributeStops
+pub field_attribute_refuses : Refuses attribute FieldAttributeStops
 unfolding attribute
 field_attribute_refuses = attribute_refuses attribute_name IsAttributeName AttributeNameStops attribute_name_ok (record { found = attribute_name_found; stops = attribute_name_stops }) attribute_name_reaches attribute_name_shrinks
 
-field_attribute_reaches : Reaches attribute (λ ts. sees kind.At ts ≡ false) (IsAttribute IsAttributeName)
+pub field_attribute_reaches : Reaches attribute (λ ts. sees kind.At ts ≡ false) (IsAttribute IsAttributeName)
 unfolding attribute
 field_attribute_reaches = attribute_reaches attribute_name IsAttributeName AttributeNameStops attribute_name_ok (record { found = attribute_name_found; stops = attribute_name_stops }) attribute_name_reaches attribute_name_shrinks
 
@@ -205,7 +204,7 @@ block_attribute_reaches = attribute_reaches name (Spelled kind.Name) (Misses kin
 
 -- ---- runs of attributes
 
-abbrev each : ℕ → List Attribute → Parser (List Attribute)
+abbrev pub each : ℕ → List Attribute → Parser (List Attribute)
 each n found = attribute >>= λ a. attributes_from n (found ++ a ∷ [])
 
 attributes_from_found : (n : ℕ) (found : List Attribute) (ts : List Token) (e : TextFault) → attributes_from n found ts ≡ Err e → (us : List Token) × AttributesStop ts us × (e ≡ refusal us)

@@ -1,17 +1,17 @@
 -- Blocks: what is refused stops so, and what stops is refused so.
-use Rattle.std.proofs.Common.{◌≡◌, ◌≢◌, ℕ, zero, suc, ◌<◌, ◌≤◌, Bool, true, false, cond, List, [], ◌∷◌, ◌++◌, length, Option, Some, None, Ok, Err, ◌⊎◌, inl, inr, refl, sym, ap, subst, ◌∙◌, arith}
+use Rattle.std.proofs.Common.{◌≡◌, ℕ, zero, suc, ◌<◌, ◌≤◌, Bool, true, false, cond, List, [], ◌∷◌, ◌++◌, length, Option, Some, None, Ok, Err, inl, inr, refl, sym, ap, ◌∙◌, arith}
 use Rattle.psl_text.specs.declared.fault.TextFault.{TextFault}
 use Rattle.psl_text.specs.declared.token.Kind.TheVariants as kind
 use Rattle.psl_text.specs.declared.token.Token.{Token}
 use Rattle.psl_text.specs.declared.tree.Name.{Name}
 use Rattle.psl_text.specs.declared.tree.Word.{Word}
 use Rattle.psl_text.specs.declared.tree.Block.{Block}
-use Rattle.psl_text.specs.Parser.{Outcome, Parser, and_then, ◌>>=◌, ◌>>◌, pure, refuse, sees, same_kind, kind_of, text_of, docs_of, rest_of, eat, expect, name, refusal}
+use Rattle.psl_text.specs.Parser.{Parser, ◌>>=◌, ◌>>◌, pure, refuse, sees, same_kind, kind_of, text_of, docs_of, rest_of, eat, expect, name, refusal}
 use Rattle.psl_text.specs.Grammar.{word_named, word_by, word_of, entries, block, blocks_from, blocks}
-use Rattle.psl_text.specs.Derives.{Sign, Spelled, IsBlock}
+use Rattle.psl_text.specs.Derives.{Spelled, IsBlock}
 use Rattle.psl_text.specs.Stops.{Misses}
-use Rattle.psl_text.specs.Faults.{EntriesStop, BlockStops, BlocksStop}
-use Rattle.psl_text.proofs.Steps.{when_yes, when_no, expect_ok, expect_sign, spelled_ok, spelled_is, spelled_sees, sees_sign, sign_sees, sign_other, sign_shrinks}
+use Rattle.psl_text.specs.Faults.{BlockStops, BlocksStop}
+use Rattle.psl_text.proofs.Steps.{when_yes, when_no, expect_ok, expect_sign, spelled_ok, spelled_is, spelled_sees, sees_sign, sign_other, sign_shrinks}
 use Rattle.psl_text.proofs.TermRules.{name_inside, name_self}
 use Rattle.psl_text.proofs.EntryRules.{newline_inside, newline_self}
 use Rattle.psl_text.proofs.BlockRules.{open_inside, open_self, word_ok, word_is, block_ok, block_is, block_shrinks, block_begins}
@@ -51,13 +51,13 @@ word_missed ts us (Misses.misses differs) = ap (λ b. cond b (word_by (word_name
 -- ---- a block
 
 -- behind the opening brace, the name and the word
-abbrev behind_brace : List (List ℕ) → Word → Name → Parser Block
+abbrev pub behind_brace : List (List ℕ) → Word → Name → Parser Block
 behind_brace above w n = entries w >>= λ es. pure (record { word = w; name = n; docs = above; entries = es })
 
-abbrev behind_name : List (List ℕ) → Word → Name → Parser Block
+abbrev pub behind_name : List (List ℕ) → Word → Name → Parser Block
 behind_name above w n = expect kind.OpenBrace >> behind_brace above w n
 
-abbrev behind_word : List (List ℕ) → Word → Parser Block
+abbrev pub behind_word : List (List ℕ) → Word → Parser Block
 behind_word above w = name >>= behind_name above w
 
 block_by_word : (ts us : List Token) (e : TextFault) → WordMissed ts us → e ≡ refusal us → (vs : List Token) × BlockStops ts vs × (e ≡ refusal vs)
@@ -87,11 +87,11 @@ block_found ts e h = elim (bind_err (word_of ts) (behind_word (docs_of ts)) e h)
       ]
 ]
 
-word_goes_on : (ts us : List Token) (b : Name) (w : Word) → Spelled kind.Name ts b us → word_named b.text ≡ Some w → block ts ≡ behind_word (docs_of ts) w us
+pub word_goes_on : (ts us : List Token) (b : Name) (w : Word) → Spelled kind.Name ts b us → word_named b.text ≡ Some w → block ts ≡ behind_word (docs_of ts) w us
 unfolding block
 word_goes_on ts us b w s named = bind_goes (word_of ts) (behind_word (docs_of ts)) w us (word_is ts b w us s named)
 
-block_stops : (ts us : List Token) → BlockStops ts us → block ts ≡ Err (refusal us)
+pub block_stops : (ts us : List Token) → BlockStops ts us → block ts ≡ Err (refusal us)
 unfolding block
 block_stops ts us (BlockStops.no_word m) = bind_stops (word_of ts) (behind_word (docs_of ts)) (refusal us) (word_missed ts us m)
 block_stops ts us (BlockStops.other_word {us = vs} {b} s named) =
@@ -110,11 +110,11 @@ block_stops ts rest (BlockStops.entries {us} {vs} {ws} {b} {w} s named t o d) =
 
 -- ---- all blocks
 
-abbrev after_block : ℕ → List Block → Block → Parser (List Block)
+abbrev pub after_block : ℕ → List Block → Block → Parser (List Block)
 after_block n found next = blocks_from n (found ++ next ∷ [])
 
 -- a turn that is not at the end
-abbrev turn : ℕ → List Block → Parser (List Block)
+abbrev pub turn : ℕ → List Block → Parser (List Block)
 turn n found = eat kind.Newline >>= λ is_blank. cond is_blank (blocks_from n found) (block >>= after_block n found)
 
 -- past the last token is the end

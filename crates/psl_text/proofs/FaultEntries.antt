@@ -9,12 +9,12 @@ use Rattle.psl_text.specs.declared.tree.Entry.{Entry}
 use Rattle.psl_text.specs.declared.tree.Entry.TheVariants as entry
 use Rattle.psl_text.specs.declared.tree.Word.{Word}
 use Rattle.psl_text.specs.declared.tree.Word.TheVariants as word
-use Rattle.psl_text.specs.Parser.{Parser, and_then, ◌>>=◌, ◌>>◌, pure, sees, same_kind, kind_of, docs_of, eat, expect, name, refusal}
-use Rattle.psl_text.specs.Grammar.{block_attribute, setting, field, member, of_block, entry_of, ending, entries_from, entries}
+use Rattle.psl_text.specs.Parser.{Parser, ◌>>=◌, ◌>>◌, pure, sees, same_kind, kind_of, docs_of, eat, expect, refusal}
+use Rattle.psl_text.specs.Grammar.{block_attribute, field, member, of_block, entry_of, ending, entries_from, entries}
 use Rattle.psl_text.specs.Derives.{Sign, Spelled, IsAttribute, IsEntry, Ends}
-use Rattle.psl_text.specs.Stops.{Misses, Whole}
+use Rattle.psl_text.specs.Stops.{Misses}
 use Rattle.psl_text.specs.Faults.{SettingStops, FieldStops, MemberStops, OfBlockStops, EntryStops, EntriesStop}
-use Rattle.psl_text.proofs.Steps.{IsInside, bind_ok, ok_rest, when_yes, when_no, expect_sign, sign_sees, sees_sign, sign_other, sign_shrinks}
+use Rattle.psl_text.proofs.Steps.{bind_ok, ok_rest, when_yes, when_no, sign_sees, sign_other, sign_shrinks}
 use Rattle.psl_text.proofs.TermRules.{name_inside, sign_kind}
 use Rattle.psl_text.proofs.EntryRules.{at_at_inside, at_at_self, newline_inside, newline_self, brace_inside, brace_self, of_block_other, entry_ok, entry_is, entry_begins, entry_shrinks, ends_ok, ends_is, ends_follow, ends_shrink}
 use Rattle.psl_text.proofs.FaultSteps.{refused, ok_not_err, faults_same, bind_err, bind_stops, bind_goes, sees_misses, misses_sees, when_split, expect_err, expect_misses, Refuses, Further, Reaches, Anything, whole_read, whole_is}
@@ -25,7 +25,7 @@ use Rattle.psl_text.proofs.FaultFields.{setting_found, setting_stops, setting_re
 -- ---- attributes of a whole block
 
 module _ (other : List (List ℕ) → Parser Entry) (OtherStops : List Token → List Token → Type 0) (refuses : (above : List (List ℕ)) → Refuses (other above) OtherStops) where
-  abbrev of_attribute : List (List ℕ) → Parser Entry
+  abbrev pub of_attribute : List (List ℕ) → Parser Entry
   of_attribute above = block_attribute >>= λ found. pure (entry.Block found above)
 
   of_block_found : (ts : List Token) (e : TextFault) → of_block other ts ≡ Err e → (us : List Token) × OfBlockStops OtherStops ts us × (e ≡ refusal us)
@@ -110,7 +110,7 @@ ending_err ts e h = by_test (sees kind.CloseBrace ts) refl h
     by_test true seen h = absurd (ok_not_err (Ok (tt, ts)) tt ts e refl h)
     by_test false seen h = by_newline seen (expect_err kind.Newline ts e h)
 
-ending_stops : (ts : List Token) → kind_of ts ≢ kind.Newline → kind_of ts ≢ kind.CloseBrace → ending ts ≡ Err (refusal ts)
+pub ending_stops : (ts : List Token) → kind_of ts ≢ kind.Newline → kind_of ts ≢ kind.CloseBrace → ending ts ≡ Err (refusal ts)
 unfolding ending
 ending_stops ts no_newline no_brace =
     ap (λ b. cond b (Ok (tt, ts)) (expect kind.Newline ts)) (misses_sees kind.CloseBrace ts no_brace) ∙ expect_misses kind.Newline ts ts (Misses.misses no_newline)
@@ -122,11 +122,11 @@ brace_apart = (refl, refl)
 -- ---- runs of entries
 
 module _ (w : Word) where
-  abbrev after_entry : ℕ → List Entry → Entry → Parser (List Entry)
+  abbrev pub after_entry : ℕ → List Entry → Entry → Parser (List Entry)
   after_entry n found next = ending >> entries_from w n (found ++ next ∷ [])
 
   -- a turn that is no closing brace
-  abbrev turn : ℕ → List Entry → Parser (List Entry)
+  abbrev pub turn : ℕ → List Entry → Parser (List Entry)
   turn n found = eat kind.Newline >>= λ is_blank. cond is_blank (entries_from w n found) (entry_of w >>= after_entry n found)
 
   entry_none : entry_of w [] ≡ refused []

@@ -1,5 +1,5 @@
 -- Settings, members and fields: what is refused stops so, and what stops is refused so.
-use Rattle.std.proofs.Common.{◌≡◌, ℕ, ◌<◌, false, cond, List, [], length, Ok, Err, ◌⊎◌, inl, inr, refl, sym, ap, subst, ◌∙◌, arith}
+use Rattle.std.proofs.Common.{◌≡◌, ℕ, ◌<◌, false, cond, List, length, Ok, Err, ◌⊎◌, inl, inr, refl, sym, subst, ◌∙◌, arith}
 use Rattle.psl_text.specs.declared.fault.TextFault.{TextFault}
 use Rattle.psl_text.specs.declared.token.Kind.TheVariants as kind
 use Rattle.psl_text.specs.declared.token.Token.{Token}
@@ -10,28 +10,24 @@ use Rattle.psl_text.specs.declared.tree.Mark.TheVariants as mark
 use Rattle.psl_text.specs.declared.tree.Entry.{Entry}
 use Rattle.psl_text.specs.declared.tree.Entry.TheVariants as entry
 use Rattle.psl_text.specs.declared.tree.Term.{Term}
-use Rattle.psl_text.specs.declared.tree.Word.{Word}
-use Rattle.psl_text.specs.declared.tree.Word.TheVariants as word
-use Rattle.psl_text.specs.Parser.{Parser, and_then, ◌>>=◌, ◌>>◌, pure, sees, same_kind, docs_of, eat, expect, name, refusal}
-use Rattle.psl_text.specs.Grammar.{max_depth, whole_term, block_attribute, attributes, mark_of, setting, field, member, of_block, entry_of}
-use Rattle.psl_text.specs.Derives.{Sign, Spelled, IsTerm, IsAttribute, IsMark, AreAttributes, IsEntry}
-use Rattle.psl_text.specs.Stops.{TermStops}
-use Rattle.psl_text.specs.Faults.{MarkStops, SettingStops, FieldStops, MemberStops, OfBlockStops, EntryStops}
+use Rattle.psl_text.specs.Parser.{Parser, ◌>>=◌, ◌>>◌, pure, sees, same_kind, eat, expect, name, refusal}
+use Rattle.psl_text.specs.Grammar.{max_depth, whole_term, attributes, mark_of, setting, field, member}
+use Rattle.psl_text.specs.Derives.{Sign, Spelled, IsTerm, IsMark, AreAttributes}
+use Rattle.psl_text.specs.Faults.{MarkStops, SettingStops, FieldStops, MemberStops}
 use Rattle.psl_text.proofs.Steps.{bind_ok, ok_rest, when_yes, when_no, expect_ok, expect_sign, spelled_ok, spelled_is, spelled_sees, sign_other, sign_shrinks}
 use Rattle.psl_text.proofs.TermRules.{name_inside, name_self, bracket_inside, bracket_self, close_bracket_inside, close_bracket_self}
-use Rattle.psl_text.proofs.LevelRules.{term_value}
 use Rattle.psl_text.proofs.AttributeRules.{attributes_ok, attributes_shrink}
-use Rattle.psl_text.proofs.EntryRules.{question_inside, question_self, equals_inside, equals_self, at_at_inside, at_at_self, mark_ok, mark_is, of_block_other}
-use Rattle.psl_text.proofs.FaultSteps.{ok_not_err, bind_err, bind_stops, bind_goes, sees_misses, misses_sees, when_split, next_is, expect_err, expect_misses, spelled_err, spelled_misses, sign_spelled, Refuses, Further, Reaches, Anything}
+use Rattle.psl_text.proofs.EntryRules.{question_inside, question_self, equals_inside, equals_self, mark_ok, mark_is}
+use Rattle.psl_text.proofs.FaultSteps.{ok_not_err, bind_err, bind_stops, bind_goes, when_split, next_is, expect_err, expect_misses, spelled_err, spelled_misses, sign_spelled, Refuses, Further, Reaches, Anything}
 use Rattle.psl_text.proofs.FaultLevels.{term_judges}
-use Rattle.psl_text.proofs.FaultAttributes.{stop_begins, block_attribute_refuses, block_attribute_reaches, attributes_refuse, attributes_reach, no_attributes}
+use Rattle.psl_text.proofs.FaultAttributes.{stop_begins, attributes_refuse, attributes_reach, no_attributes}
 
 -- ---- marks
 
-abbrev closing : Parser Mark
+abbrev pub closing : Parser Mark
 closing = expect kind.CloseBracket >> pure mark.Many
 
-abbrev no_question : Parser Mark
+abbrev pub no_question : Parser Mark
 no_question = eat kind.OpenBracket >>= λ opens. cond opens closing (pure mark.One)
 
 mark_found : (ts : List Token) (e : TextFault) → mark_of ts ≡ Err e → (us : List Token) × MarkStops ts us × (e ≡ refusal us)
@@ -82,10 +78,10 @@ mark_reaches ts m rest IsMark.one = elim (next_is kind.Question ts question_insi
 
 -- ---- settings
 
-abbrev behind_equals : Name → Parser Entry
+abbrev pub behind_equals : Name → Parser Entry
 behind_equals n = whole_term >>= λ v. pure (entry.Setting n v)
 
-abbrev after_name : Name → Parser Entry
+abbrev pub after_name : Name → Parser Entry
 after_name n = expect kind.Equals >> behind_equals n
 
 pub setting_found : (ts : List Token) (e : TextFault) → setting ts ≡ Err e → (us : List Token) × SettingStops ts us × (e ≡ refusal us)
@@ -135,7 +131,7 @@ setting_reaches ts us vs n v rest s q t = elim ((term_judges max_depth).reaches 
 -- ---- members
 
 module _ (above : List (List ℕ)) where
-  abbrev behind_member : Name → Parser Entry
+  abbrev pub behind_member : Name → Parser Entry
   behind_member n = attributes >>= λ found. pure (entry.Member n found above)
 
   member_found : (ts : List Token) (e : TextFault) → member above ts ≡ Err e → (us : List Token) × MemberStops ts us × (e ≡ refusal us)
@@ -179,13 +175,13 @@ module _ (above : List (List ℕ)) where
 
   -- ---- fields
 
-  abbrev behind_mark : Name → Name → Mark → Parser Entry
+  abbrev pub behind_mark : Name → Name → Mark → Parser Entry
   behind_mark n k m = attributes >>= λ found. pure (entry.Field n k m found above)
 
-  abbrev behind_type : Name → Name → Parser Entry
+  abbrev pub behind_type : Name → Name → Parser Entry
   behind_type n k = mark_of >>= behind_mark n k
 
-  abbrev behind_name : Name → Parser Entry
+  abbrev pub behind_name : Name → Parser Entry
   behind_name n = name >>= behind_type n
 
   field_found : (ts : List Token) (e : TextFault) → field above ts ≡ Err e → (us : List Token) × FieldStops ts us × (e ≡ refusal us)

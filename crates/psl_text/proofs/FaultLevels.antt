@@ -1,21 +1,20 @@
 -- Terms of any depth: what is refused stops so, and what stops is refused so.
-use Rattle.std.proofs.Common.{◌≡◌, ◌≢◌, ℕ, zero, suc, ◌<◌, false, cond, List, [], length, Ok, Err, ◌⊎◌, inl, inr, refl, sym, ap, subst, ◌∙◌, arith}
+use Rattle.std.proofs.Common.{◌≡◌, ◌≢◌, ℕ, zero, suc, ◌<◌, false, cond, List, [], length, Err, inl, inr, refl, sym, ap, subst, ◌∙◌, arith}
 use Rattle.psl_text.specs.declared.fault.TextFault.{TextFault}
 use Rattle.psl_text.specs.declared.token.Kind.{Kind}
 use Rattle.psl_text.specs.declared.token.Kind.TheVariants as kind
 use Rattle.psl_text.specs.declared.token.Token.{Token}
 use Rattle.psl_text.specs.declared.tree.Name.{Name}
-use Rattle.psl_text.specs.declared.tree.Argument.{Argument}
 use Rattle.psl_text.specs.declared.tree.Term.{Term}
 use Rattle.psl_text.specs.declared.tree.Term.TheVariants as term
-use Rattle.psl_text.specs.Parser.{Parser, and_then, ◌>>=◌, pure, sees, same_kind, kind_of, eat, spelled, name, refusal}
+use Rattle.psl_text.specs.Parser.{Parser, and_then, ◌>>=◌, pure, sees, kind_of, eat, spelled, name, refusal}
 use Rattle.psl_text.specs.Grammar.{arguments, items, named_term, term_by, level, term_of}
 use Rattle.psl_text.specs.Derives.{Sign, Spelled, IsArgument, IsTermOf, IsTerm}
 use Rattle.psl_text.specs.Stops.{Misses, TermStopsOf, TermStops}
 use Rattle.psl_text.proofs.Steps.{bind_ok, ok_rest, when_yes, when_no, spelled_ok, spelled_is, spelled_sees, sign_sees, sign_shrinks}
 use Rattle.psl_text.proofs.TermRules.{IsValue, sign_kind, arguments_ok, arguments_is, items_is, argument_shrinks, name_inside, name_self, text_self, number_self, bracket_inside, bracket_self, paren_inside, paren_self}
 use Rattle.psl_text.proofs.LevelRules.{separated_shrinks, by_kind, term_value}
-use Rattle.psl_text.proofs.FaultSteps.{refused, ok_not_err, faults_same, bind_err, bind_stops, bind_goes, when_split, next_is, rests_same, spelled_err, sign_spelled, kind_other, Refuses, Further, Reaches, Anything}
+use Rattle.psl_text.proofs.FaultSteps.{refused, ok_not_err, faults_same, bind_err, bind_stops, bind_goes, when_split, next_is, rests_same, spelled_err, sign_spelled, Reaches, Anything}
 use Rattle.psl_text.proofs.FaultTerms.{Judges, arguments_refuse, items_refuse}
 
 -- a token of the kind that was seen is not missed
@@ -140,7 +139,7 @@ module _ (value : Parser Term) (Value : List Token → Term → List Token → T
   unfolding level kind_of
   level_none = refl
 
-  level_judges : Judges (level value) (IsTermOf Value) (TermStopsOf Value ValueStops)
+  pub level_judges : Judges (level value) (IsTermOf Value) (TermStopsOf Value ValueStops)
   level_judges = record {
     refuses = record { found = level_found; stops = level_stops };
     reaches = level_reaches;

@@ -1,13 +1,13 @@
 -- Items with commas between them: what is refused stops so, and what stops is refused so.
-use Rattle.std.proofs.Common.{◌≡◌, ◌≢◌, ℕ, zero, suc, ◌<◌, ◌≤◌, true, false, cond, List, [], ◌∷◌, ◌++◌, length, Ok, Err, inl, inr, refl, sym, ap, subst, ◌∙◌, arith}
+use Rattle.std.proofs.Common.{◌≡◌, ◌≢◌, ℕ, zero, suc, ◌<◌, ◌≤◌, false, cond, List, [], ◌∷◌, ◌++◌, length, Ok, Err, inl, inr, refl, sym, ap, subst, ◌∙◌, arith}
 use Rattle.psl_text.specs.declared.fault.TextFault.{TextFault}
 use Rattle.psl_text.specs.declared.token.Kind.{Kind}
 use Rattle.psl_text.specs.declared.token.Kind.TheVariants as kind
 use Rattle.psl_text.specs.declared.token.Token.{Token}
-use Rattle.psl_text.specs.Parser.{Outcome, Parser, and_then, ◌>>=◌, ◌>>◌, pure, kind_of, sees, same_kind, eat, expect, separated, refusal}
+use Rattle.psl_text.specs.Parser.{Parser, ◌>>=◌, ◌>>◌, pure, kind_of, sees, eat, expect, separated, refusal}
 use Rattle.psl_text.specs.Derives.{Sign}
-use Rattle.psl_text.specs.Stops.{Misses, Whole, SeparatedStops}
-use Rattle.psl_text.proofs.Steps.{IsInside, when_yes, when_no, sign_other, sign_shrinks}
+use Rattle.psl_text.specs.Stops.{Misses, SeparatedStops}
+use Rattle.psl_text.proofs.Steps.{IsInside, when_yes, when_no, sign_shrinks}
 use Rattle.psl_text.proofs.Separate.{Stops, comma_inside, comma_self}
 use Rattle.psl_text.proofs.FaultSteps.{refused, ok_not_err, faults_same, bind_err, bind_stops, bind_goes, sees_misses, misses_sees, when_split, expect_err, expect_misses, Refuses, Reaches, whole_read, whole_is}
 

@@ -1,16 +1,15 @@
 -- The steps of the parser that are refused, against the tokens at which they are.
-use Rattle.std.proofs.Common.{◌≡◌, ◌≢◌, ◌<◌, ◌≤◌, ℕ, Bool, true, false, cond, List, [], ◌∷◌, length, Result, Ok, Err, ◌⊎◌, inl, inr, refl, sym, ap, subst, ◌∙◌, arith}
+use Rattle.std.proofs.Common.{◌≡◌, ◌≢◌, ◌<◌, Bool, true, false, cond, List, length, Ok, Err, ◌⊎◌, inl, inr, refl, sym, ap, ◌∙◌, arith}
 use denote.Enum.Bare.{same_false}
 use Rattle.psl_text.specs.contracts.token.Kind.{the_type}
 use Rattle.psl_text.specs.declared.fault.TextFault.{TextFault}
 use Rattle.psl_text.specs.declared.token.Kind.{Kind}
-use Rattle.psl_text.specs.declared.token.Kind.TheVariants as kind
 use Rattle.psl_text.specs.declared.token.Token.{Token}
 use Rattle.psl_text.specs.declared.tree.Name.{Name}
 use Rattle.psl_text.specs.Parser.{Outcome, Parser, and_then, kind_of, place_of, text_of, rest_of, sees, same_kind, eat, expect, spelled, refusal}
 use Rattle.psl_text.specs.Derives.{Sign, Spelled}
 use Rattle.psl_text.specs.Stops.{Misses, Whole}
-use Rattle.psl_text.proofs.Steps.{ok_rest, IsInside, kinds_same, sees_sign, sign_sees, spelled_sees}
+use Rattle.psl_text.proofs.Steps.{ok_rest, IsInside, kinds_same, sees_sign, sign_sees}
 
 -- what a parser gives when it refuses the next of these tokens
 abbrev pub refused : {A : Type 0} → List Token → Outcome A

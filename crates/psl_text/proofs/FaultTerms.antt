@@ -1,5 +1,5 @@
 -- Arguments and terms: what is refused stops so, and what stops is refused so.
-use Rattle.std.proofs.Common.{◌≡◌, ◌≢◌, ℕ, zero, suc, ◌<◌, ◌≤◌, Bool, true, false, cond, List, [], ◌∷◌, length, Option, Some, None, Ok, Err, ◌⊎◌, inl, inr, refl, sym, ap, subst, ◌∙◌, arith}
+use Rattle.std.proofs.Common.{◌≡◌, ◌≢◌, ◌<◌, Bool, true, false, cond, List, [], length, Option, Some, None, Ok, Err, ◌⊎◌, inl, inr, refl, sym, ap, subst, ◌∙◌, arith}
 use Rattle.psl_text.specs.declared.fault.TextFault.{TextFault}
 use Rattle.psl_text.specs.declared.token.Kind.{Kind}
 use Rattle.psl_text.specs.declared.token.Kind.TheVariants as kind
@@ -8,13 +8,12 @@ use Rattle.psl_text.specs.declared.tree.Name.{Name}
 use Rattle.psl_text.specs.declared.tree.Term.{Term}
 use Rattle.psl_text.specs.declared.tree.Argument.{Argument, roll-Argument}
 use Rattle.psl_text.specs.Scan.{is_fault}
-use Rattle.psl_text.specs.Parser.{Outcome, Parser, and_then, ◌>>=◌, pure, sees, same_kind, kind_of, rest_of, refusal}
+use Rattle.psl_text.specs.Parser.{Parser, ◌>>=◌, pure, sees, same_kind, kind_of, rest_of, refusal}
 use Rattle.psl_text.specs.Grammar.{named_by, argument_name, argument, arguments, items}
-use Rattle.psl_text.specs.Derives.{Sign, Spelled, Separated, IsArgument}
+use Rattle.psl_text.specs.Derives.{Sign, Spelled, IsArgument}
 use Rattle.psl_text.specs.Stops.{ArgumentStops, SeparatedStops}
-use Rattle.psl_text.proofs.Steps.{bind_ok, ok_rest, sees_sign, sign_sees, sign_other, sign_shrinks, spelled_sees}
-use Rattle.psl_text.proofs.Separate.{Stops}
-use Rattle.psl_text.proofs.TermRules.{IsValue, IsStop, sign_kind, stops, stop_comma, named_yes, unnamed_name, argument_ok, argument_is, argument_begins, argument_shrinks, name_inside, name_self, colon_inside, colon_self, close_paren_inside, close_bracket_inside}
+use Rattle.psl_text.proofs.Steps.{bind_ok, ok_rest, sees_sign, sign_sees, sign_shrinks, spelled_sees}
+use Rattle.psl_text.proofs.TermRules.{IsValue, sign_kind, stops, stop_comma, named_yes, unnamed_name, argument_ok, argument_is, argument_begins, argument_shrinks, name_inside, name_self, colon_inside, close_paren_inside, close_bracket_inside}
 use Rattle.psl_text.proofs.FaultSteps.{refused, ok_not_err, faults_same, bind_err, bind_stops, bind_goes, sees_misses, kind_other, sign_spelled, rests_same, next_is, Refuses, Further, Reaches, Anything}
 use Rattle.psl_text.proofs.FaultSeparate.{separated_found, separated_stops}
 
@@ -30,7 +29,7 @@ named_fault_by kind.Unclosed ts e = refl
 named_fault_by _ ts e = absurd (cc)
 
 -- what is no token behind a name
-named_fault : (ts us : List Token) → Sign kind.Name ts us → is_fault (kind_of us) ≡ true → argument_name ts ≡ Err (refusal us)
+pub named_fault : (ts us : List Token) → Sign kind.Name ts us → is_fault (kind_of us) ≡ true → argument_name ts ≡ Err (refusal us)
 unfolding argument_name
 named_fault ts us s f =
     let seen = sign_sees kind.Name ts us name_self s in
@@ -42,7 +41,7 @@ abbrev pub IsPlain : List Token → Type 0
 IsPlain ts = (n : Name) (vs : List Token) → Spelled kind.Name ts n vs → (kind_of vs ≢ kind.Colon) × (is_fault (kind_of vs) ≡ false)
 
 -- how an argument begins
-data Begins (ts : List Token) : Type 0 where
+pub data Begins (ts : List Token) : Type 0 where
   named : (us vs : List Token) (n : Name) → Spelled kind.Name ts n us → Sign kind.Colon us vs → argument_name ts ≡ Ok (Some n, vs) → Begins ts
   no_token : (us : List Token) (n : Name) → Spelled kind.Name ts n us → is_fault (kind_of us) ≡ true → argument_name ts ≡ Err (refusal us) → Begins ts
   plain : IsPlain ts → argument_name ts ≡ Ok (None, ts) → Begins ts
@@ -63,7 +62,7 @@ begins_name ts us n s = elim (next_is kind.Colon us colon_inside) [
             let same : us ≡ vs = rests_same kind.Name kind.Name ts us vs name_self name_self (spelled_sees kind.Name ts n us s) (spelled_sees kind.Name ts m vs t) in
             (sees_misses kind.Colon vs (subst (λ zs. sees kind.Colon zs ≡ false) same no_colon), subst (λ zs. is_fault (kind_of zs) ≡ false) same f)
 
-begins : (ts : List Token) → Begins ts
+pub begins : (ts : List Token) → Begins ts
 unfolding argument_name
 begins ts = by_test (sees kind.Name ts) refl
   where
@@ -74,7 +73,7 @@ begins ts = by_test (sees kind.Name ts) refl
         no_name : (n : Name) (vs : List Token) → Spelled kind.Name ts n vs → ⊥
         no_name n vs s = let seen = (sign_sees kind.Name ts vs name_self (spelled_sees kind.Name ts n vs s)).0 in absurd (cc)
 
-plain_name : (ts : List Token) → IsPlain ts → Begins ts → argument_name ts ≡ Ok (None, ts)
+pub plain_name : (ts : List Token) → IsPlain ts → Begins ts → argument_name ts ≡ Ok (None, ts)
 plain_name ts p (Begins.named us vs n s c e) = absurd ((p n us s).0 (sign_kind kind.Colon us vs c))
 plain_name ts p (Begins.no_token us n s f e) = let other = (p n us s).1 in absurd (cc)
 plain_name ts p (Begins.plain q e) = e
@@ -92,11 +91,11 @@ module _ (value : Parser Term) (Value : List Token → Term → List Token → T
   abbrev with_name : Option Name → Parser Argument
   with_name o = value >>= λ v. pure (roll-Argument (record { name = o; value = v }))
 
-  after_name : (ts us : List Token) (o : Option Name) → argument_name ts ≡ Ok (o, us) → argument value ts ≡ with_name o us
+  pub after_name : (ts us : List Token) (o : Option Name) → argument_name ts ≡ Ok (o, us) → argument value ts ≡ with_name o us
   unfolding argument
   after_name ts us o e = bind_goes (argument_name ts) with_name o us e
 
-  no_name : (ts : List Token) (e : TextFault) → argument_name ts ≡ Err e → argument value ts ≡ Err e
+  pub no_name : (ts : List Token) (e : TextFault) → argument_name ts ≡ Err e → argument value ts ≡ Err e
   unfolding argument
   no_name ts e h = bind_stops (argument_name ts) with_name e h
 
@@ -138,7 +137,7 @@ module _ (value : Parser Term) (Value : List Token → Term → List Token → T
     })
   ]
 
-  argument_reaches : Reaches (argument value) Anything (IsArgument Value)
+  pub argument_reaches : Reaches (argument value) Anything (IsArgument Value)
   argument_reaches ts a rest (IsArgument.named {us} {vs} {n} {v} s c h) = value_reaches ts vs (Some n) v rest (named_yes ts us vs n s c) h
   argument_reaches ts a rest (IsArgument.plain {v} h) = by_name (begins ts)
     where
@@ -161,7 +160,7 @@ module _ (value : Parser Term) (Value : List Token → Term → List Token → T
   unfolding argument argument_name sees same_kind kind_of
   argument_none = bind_stops (value []) (λ v. pure (roll-Argument (record { name = None; value = v }))) (refusal []) judges.none
 
-  argument_refuses : Refuses (argument value) (ArgumentStops ValueStops)
+  pub argument_refuses : Refuses (argument value) (ArgumentStops ValueStops)
   argument_refuses = record { found = argument_found; stops = argument_stops }
 
   -- ---- lists

@@ -8,14 +8,13 @@ use Rattle.std.specs.Str.{IsUtf8, is_utf8, IsValidUpTo}
 use Rattle.std.specs.Str.Lossy.{utf8_valid_len, valid_len_up_to}
 use Rattle.psl_text.specs.declared.fault.TextFault.{TextFault}
 use Rattle.psl_text.specs.declared.fault.TextFault.TheVariants as fault
-use Rattle.psl_text.specs.declared.token.Token.{Token}
 use Rattle.psl_text.specs.declared.tree.Block.{Block}
 use Rattle.psl_text.specs.declared.tree.Tree.{Tree}
 use Rattle.psl_text.specs.Lex.{tokens_of}
-use Rattle.psl_text.specs.Parser.{Outcome, refusal}
+use Rattle.psl_text.specs.Parser.{Outcome}
 use Rattle.psl_text.specs.Grammar.{max_length, with_length, blocks, tree_of, Answers}
 use Rattle.psl_text.specs.Derives.{IsText, HasTree}
-use Rattle.psl_text.specs.Faults.{BlocksStop, HasFault}
+use Rattle.psl_text.specs.Faults.{HasFault}
 use Rattle.psl_text.proofs.Whole.{tree_of_text}
 use Rattle.psl_text.proofs.BlockRules.{tree_is_read, tree_is_derived}
 use Rattle.psl_text.proofs.Cutting.{tokens_are, tokens_only}

@@ -26,3 +26,10 @@ pub mod FaultFields
 pub mod FaultEntries
 pub mod FaultBlocks
 pub mod FaultTexts
+pub mod Alike
+pub mod AlikeTerms
+pub mod AlikeLevels
+pub mod AlikeAttributes
+pub mod AlikeEntries
+pub mod AlikeRuns
+pub mod AlikeBlocks

@@ -7,7 +7,6 @@ use Rattle.psl_text.specs.declared.token.Kind.TheVariants as kind
 use Rattle.psl_text.specs.declared.token.Token.{Token}
 use Rattle.psl_text.specs.declared.tree.Name.{Name}
 use Rattle.psl_text.specs.declared.tree.Mark.{Mark}
-use Rattle.psl_text.specs.declared.tree.Attribute.{Attribute}
 use Rattle.psl_text.specs.declared.tree.Entry.{Entry}
 use Rattle.psl_text.specs.declared.tree.Word.{Word}
 use Rattle.psl_text.specs.declared.tree.Word.TheVariants as word
@@ -20,11 +19,11 @@ use Rattle.psl_text.specs.Stops.{Misses, Whole, TermStops, AttributeStops, Attri
 
 -- ---- entries
 
--- behind an opening bracket
+-- behind the opening bracket of a mark
 pub data MarkStops : List Token → List Token → Type 0 where
   many : {ts us vs : List Token} → Sign kind.OpenBracket ts us → Misses kind.CloseBracket us vs → MarkStops ts vs
 
--- where the name, the sign or the value is wanted
+-- where the name or the equals sign is wanted, or in the value
 pub data SettingStops : List Token → List Token → Type 0 where
   name : {ts us : List Token} → Misses kind.Name ts us → SettingStops ts us
   equals : {ts us vs : List Token} → Sign kind.Name ts us → Misses kind.Equals us vs → SettingStops ts vs
@@ -47,7 +46,7 @@ pub data OfBlockStops (OtherStops : List Token → List Token → Type 0) : List
   attribute : {ts us vs : List Token} → Sign kind.AtAt ts us → AttributeStops (Spelled kind.Name) (Misses kind.Name) us vs → OfBlockStops OtherStops ts vs
   other : {ts us : List Token} → kind_of ts ≢ kind.AtAt → OtherStops ts us → OfBlockStops OtherStops ts us
 
--- what may stand in a block that begins with this word
+-- in what may stand in a block that begins with this word
 unfoldable pub EntryStops : Word → List Token → List Token → Type 0
 EntryStops word.Datasource = SettingStops
 EntryStops word.Generator = SettingStops
@@ -71,7 +70,7 @@ pub data BlockStops : List Token → List Token → Type 0 where
   brace : {ts us vs ws : List Token} {b : Name} {w : Word} → Spelled kind.Name ts b us → word_named b.text ≡ Some w → Sign kind.Name us vs → Misses kind.OpenBrace vs ws → BlockStops ts ws
   entries : {ts us vs ws rest : List Token} {b : Name} {w : Word} → Spelled kind.Name ts b us → word_named b.text ≡ Some w → Sign kind.Name us vs → Sign kind.OpenBrace vs ws → EntriesStop w ws rest → BlockStops ts rest
 
--- in a block
+-- in one of the blocks up to the end of the text
 pub data BlocksStop : List Token → List Token → Type 0 where
   block : {ts us : List Token} → kind_of ts ≢ kind.End → kind_of ts ≢ kind.Newline → BlockStops ts us → BlocksStop ts us
   blank : {ts us vs : List Token} → Sign kind.Newline ts us → BlocksStop us vs → BlocksStop ts vs
@@ -79,7 +78,7 @@ pub data BlocksStop : List Token → List Token → Type 0 where
 
 -- ---- texts
 
--- It is too long, or short enough and not UTF-8, or the first token that doesn't fit is at fault.
+-- It has too many bytes; or else it is UTF-8 only up to some byte; or else its tokens stop at one.
 pub data HasFault (text : List ℕ) : TextFault → Type 0 where
   too_long : max_length < length text → HasFault text (fault.TooLong max_length)
   not_utf8 : {n : ℕ} → length text ≤ max_length → IsValidUpTo text n → HasFault text (fault.NotUtf8 n)

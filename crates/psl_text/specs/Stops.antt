@@ -1,30 +1,24 @@
--- Where tokens stop fitting the grammar, by its rules: what is left of them from the first one that fits no more. A rule
--- says nothing of how a text is read.
-use Rattle.std.specs.Prelude.{◌≡◌, ◌≢◌, ◌≤◌, ℕ, zero, suc, false, true, List, length, Some, None}
+-- Where tokens stop fitting the grammar, by its rules: of some tokens others are left, the first of which fits no more. A
+-- rule says nothing of how a text is read.
+use Rattle.std.specs.Prelude.{◌≡◌, ◌≢◌, ◌≤◌, ℕ, zero, suc, false, true, List, length}
 use Rattle.psl_text.specs.declared.token.Kind.{Kind}
 use Rattle.psl_text.specs.declared.token.Kind.TheVariants as kind
 use Rattle.psl_text.specs.declared.token.Token.{Token}
 use Rattle.psl_text.specs.declared.tree.Name.{Name}
 use Rattle.psl_text.specs.declared.tree.Term.{Term}
-use Rattle.psl_text.specs.declared.tree.Argument.{Argument}
 use Rattle.psl_text.specs.declared.tree.Attribute.{Attribute}
-use Rattle.psl_text.specs.declared.tree.Mark.{Mark}
-use Rattle.psl_text.specs.declared.tree.Entry.{Entry}
-use Rattle.psl_text.specs.declared.tree.Word.{Word}
-use Rattle.psl_text.specs.declared.tree.Word.TheVariants as word
-use Rattle.psl_text.specs.declared.tree.Block.{Block}
 use Rattle.psl_text.specs.Scan.{is_fault}
 use Rattle.psl_text.specs.Parser.{kind_of}
-use Rattle.psl_text.specs.Grammar.{max_depth, word_named}
-use Rattle.psl_text.specs.Derives.{Sign, Spelled, Separated, IsArgument, IsTerm, IsAttributeName, IsAttribute, IsMark, AreAttributes, IsEntry, IsBlock}
+use Rattle.psl_text.specs.Grammar.{max_depth}
+use Rattle.psl_text.specs.Derives.{Sign, Spelled, IsArgument, IsTerm, IsAttributeName, IsAttribute}
 
 -- ---- tokens
 
--- a token of this kind is wanted, and another one comes next
+-- where a token of this kind is wanted, and another one comes next
 pub data Misses (k : Kind) : List Token → List Token → Type 0 where
   misses : {ts : List Token} → kind_of ts ≢ k → Misses k ts ts
 
--- as much as the tokens have of an item: none is longer, and none stops
+-- an item in its full length: none is longer, and none stops
 pub record Whole {A : Type 0} (Item : List Token → A → List Token → Type 0) (ItemStops : List Token → List Token → Type 0) (ts : List Token) (x : A) (us : List Token) : Type 0 where
   pub is : Item ts x us
   pub longest : (y : A) (vs : List Token) → Item ts y vs → length us ≤ length vs
@@ -38,13 +32,13 @@ pub data SeparatedStops {A : Type 0} (Item : List Token → A → List Token →
   behind : {ts us : List Token} {x : A} → Whole Item ItemStops ts x us → kind_of us ≢ kind.Comma → kind_of us ≢ close → SeparatedStops Item ItemStops close ts us
   later : {ts us vs ws : List Token} {x : A} → Item ts x us → Sign kind.Comma us vs → SeparatedStops Item ItemStops close vs ws → SeparatedStops Item ItemStops close ts ws
 
--- in the value of an argument; but what is no token behind a name comes before the name
+-- in the value of an argument, or behind a name at what is no token, which comes before the name is judged
 pub data ArgumentStops (ValueStops : List Token → List Token → Type 0) : List Token → List Token → Type 0 where
   plain : {ts us : List Token} → ((n : Name) (vs : List Token) → Spelled kind.Name ts n vs → (kind_of vs ≢ kind.Colon) × (is_fault (kind_of vs) ≡ false)) → ValueStops ts us → ArgumentStops ValueStops ts us
   named : {ts us vs ws : List Token} → Sign kind.Name ts us → Sign kind.Colon us vs → ValueStops vs ws → ArgumentStops ValueStops ts ws
   no_token : {ts us : List Token} → Sign kind.Name ts us → is_fault (kind_of us) ≡ true → ArgumentStops ValueStops ts us
 
--- where no term begins, or in the arguments or the items of one
+-- where no term begins, or within the parentheses or the brackets of one
 pub data TermStopsOf (Value : List Token → Term → List Token → Type 0) (ValueStops : List Token → List Token → Type 0) : List Token → List Token → Type 0 where
   begins : {ts : List Token} → kind_of ts ≢ kind.Text → kind_of ts ≢ kind.Number → kind_of ts ≢ kind.Name → kind_of ts ≢ kind.OpenBracket → TermStopsOf Value ValueStops ts ts
   call : {ts us vs ws : List Token} → Sign kind.Name ts us → Sign kind.OpenParen us vs → SeparatedStops (IsArgument Value) (ArgumentStops ValueStops) kind.CloseParen vs ws → TermStopsOf Value ValueStops ts ws

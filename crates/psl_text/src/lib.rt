@@ -16,6 +16,8 @@ mod token;
 mod tree;
 
 pub use fault::TextFault;
-pub use laws::{never_both, one_fault, one_list_of_tokens, one_tree, some_answer, too_long};
+pub use laws::{
+    first_from_the_left, never_both, one_fault, one_list_of_tokens, one_tree, some_answer, too_long,
+};
 pub use reader::read_tree;
 pub use tree::{Argument, Attribute, Block, Entry, Mark, Name, Term, Tree, Word};
