@@ -1,0 +1,23 @@
+//! Names that stand twice.
+ghost use Rattle.std.specs.Prelude.{◌≡◌, IfOk, map};
+ghost use Rattle.psl_rules.specs.Parts.{first, place, repeats};
+ghost use Rattle.psl_rules.specs.Names.{same_name};
+
+use crate::first::noted;
+use indexmap::IndexSet;
+use psl_text::Name;
+use qe_base::Memory;
+use std::alloc::Global;
+
+/// The first place of a name that an earlier one is like.
+pub fn first_repeat(alloc: Global, names: &[&Name]) -> Result<Option<usize>, Memory>
+    ensures { IfOk result (λ found. found ≡ first (map place (repeats same_name (map (λ name. name.now) names.now)))) }
+{
+    let mut seen = IndexSet::new(alloc);
+    let mut found = None;
+    for name in names {
+        let is_new = seen.insert(name.text.as_str())?;
+        found = noted(found, !is_new, name.at);
+    }
+    Ok(found)
+}

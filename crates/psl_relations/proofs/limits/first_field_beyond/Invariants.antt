@@ -1,0 +1,12 @@
+use Rattle.std.proofs.Common.{◌≡◌, ℕ, List, drop, Bor}
+use Rattle.std.specs.List.{flat_map}
+use Rattle.psl_text.specs.declared.tree.Block.{Block}
+use Rattle.psl_rules.specs.Parts.{first, earlier}
+use Rattle.psl_rules.specs.Names.{field_names}
+use Rattle.psl_rules.specs.Stored.{beyond}
+use Rattle.psl_relations.proofs.limits.first_field_beyond.Given as goal
+
+abbrev pub invariant-loop-model : goal.invariant-loop-model
+invariant-loop-model l =
+    let places : List (Bor Block) → List ℕ = flat_map (λ block. beyond 128 (field_names block.now)) in
+    earlier l.found (first (places (drop l.model-index l.model-items))) ≡ first (places l.model-items)

@@ -1,0 +1,19 @@
+//! The rules on relations, stored names and limits: for each, the first place of a tree that breaks it.
+#![tactic(auto)]
+
+mod foreign;
+mod limits;
+mod relations;
+mod stored;
+#[cfg(test)]
+mod tests;
+mod updates;
+
+pub use foreign::{
+    actions_are_known, foreign_keys_are_whole, one_to_one_is_unique, references_are_columns,
+    references_are_keys, references_have_the_type,
+};
+pub use limits::limits_hold;
+pub use relations::{End, Pair, ends, ends_are_paired, pairs, pairs_have_a_holder, partners};
+pub use stored::{stored_names_are_distinct, stored_tables};
+pub use updates::updates_form_no_cycle;

@@ -1,0 +1,101 @@
+//! How many tables, fields and members there may be.
+ghost use Rattle.std.specs.Prelude.{◌≡◌, IfOk, map};
+ghost use Rattle.std.specs.List.{flat_map};
+ghost use Rattle.psl_rules.specs.Parts.{first, place, models, enums};
+ghost use Rattle.psl_rules.specs.Names.{field_names, member_names};
+ghost use Rattle.psl_rules.specs.Stored as spec;
+
+use crate::stored::{references, stored_tables};
+use psl_fields::{field_names, member_names};
+use psl_parts::{Types, blocks_of, earlier, noted};
+use psl_text::{Block, Name, Tree, Word};
+use qe_base::Memory;
+use std::alloc::Global;
+
+const MOST_TABLES: usize = 256;
+
+const MOST_FIELDS: usize = 128;
+
+const MOST_MEMBERS: usize = 1000;
+
+/// The first of the names' places.
+fn first_place(names: &[&Name]) -> Option<usize>
+    ensures { result ≡ first (map place (map (λ name. name.now) names.now)) }
+{
+    let mut found = None;
+    for name in names {
+        found = noted(found, true, name.at);
+    }
+    found
+}
+
+/// The first place of the names behind so many.
+fn first_beyond(most: usize, names: &[&Name]) -> Option<usize>
+    ensures { result ≡ first (spec.beyond most (map (λ name. name.now) names.now)) }
+{
+    if names.len() <= most {
+        None
+    } else {
+        let (_, others) = names.split_at(most);
+        first_place(others)
+    }
+}
+
+/// The first of a model's fields beyond 128.
+fn field_beyond(alloc: Global, model: &Block) -> Result<Option<usize>, Memory>
+    ensures { IfOk result (λ found. found ≡ first (spec.beyond 128 (field_names model.now))) }
+{
+    let names = field_names(alloc, model)?;
+    Ok(first_beyond(MOST_FIELDS, names.as_slice()))
+}
+
+/// The first of an enum's members beyond 1,000.
+fn member_beyond(alloc: Global, enumeration: &Block) -> Result<Option<usize>, Memory>
+    ensures { IfOk result (λ found. found ≡ first (spec.beyond 1000 (member_names enumeration.now))) }
+{
+    let names = member_names(alloc, enumeration)?;
+    Ok(first_beyond(MOST_MEMBERS, names.as_slice()))
+}
+
+/// The first of the fields beyond 128 in their model.
+fn first_field_beyond(alloc: Global, tree: &Tree) -> Result<Option<usize>, Memory>
+    ensures { IfOk result (λ found. found ≡ first (flat_map (λ model. spec.beyond 128 (field_names model)) (models tree.now))) }
+{
+    let mut found = None;
+    for model in blocks_of(alloc, tree, Word::Model)?.as_slice() {
+        found = earlier(found, field_beyond(alloc, model)?);
+    }
+    Ok(found)
+}
+
+/// The first of the members beyond 1,000 in their enum.
+fn first_member_beyond(alloc: Global, tree: &Tree) -> Result<Option<usize>, Memory>
+    ensures { IfOk result (λ found. found ≡ first (flat_map (λ enum. spec.beyond 1000 (member_names enum)) (enums tree.now))) }
+{
+    let mut found = None;
+    for enumeration in blocks_of(alloc, tree, Word::Enum)?.as_slice() {
+        found = earlier(found, member_beyond(alloc, enumeration)?);
+    }
+    Ok(found)
+}
+
+/// The first of the tables beyond 256.
+fn table_beyond(alloc: Global, types: &Types) -> Result<Option<usize>, Memory>
+    ensures { IfOk result (λ found. found ≡ first (spec.beyond 256 (spec.stored_tables types.now))) }
+{
+    let tables = stored_tables(alloc, types)?;
+    let names = references(alloc, tables.as_slice())?;
+    Ok(first_beyond(MOST_TABLES, names.as_slice()))
+}
+
+/// There are at most 256 tables, 128 fields in a model, and 1,000 members in an enum. Broken at the
+/// names of those beyond.
+#[tactic(auto, using(psl_parts::proofs::Firsts::first_append))]
+pub fn limits_hold(alloc: Global, types: &Types) -> Result<Option<usize>, Memory>
+    ensures { IfOk result (λ found. found ≡ first (spec.limits_hold types.now)) }
+{
+    let table = table_beyond(alloc, types)?;
+    let field = first_field_beyond(alloc, types.tree())?;
+    let member = first_member_beyond(alloc, types.tree())?;
+    Ok(earlier(table, earlier(field, member)))
+}

@@ -1,0 +1,13 @@
+pub mod Accepted
+pub mod Arguments
+pub mod Attributes
+pub mod Defaults
+pub mod Foreign
+pub mod Keys
+pub mod Known
+pub mod Names
+pub mod Parts
+pub mod Relations
+pub mod Settings
+pub mod Stored
+pub mod Updates
