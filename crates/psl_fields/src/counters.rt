@@ -8,7 +8,7 @@ ghost use Rattle.psl_rules.specs.Defaults as spec;
 use crate::keys::id_names;
 use psl_parts::{blocks_of, calls, earlier, given, is_among, is_called, noted};
 use psl_text::{Attribute, Block, Entry, Tree, Word};
-use qe_base::Memory;
+use qe_text::Memory;
 use std::alloc::Global;
 
 /// Whether an attribute is `@default(autoincrement())`.

@@ -11,7 +11,7 @@ use psl_parts::{
 };
 use psl_rules::Key;
 use psl_text::{Attribute, Block, Entry, Mark, Name, Tree, Word};
-use qe_base::{Items, Memory, Text};
+use qe_text::{Items, Memory, Text};
 use std::alloc::Global;
 
 /// The first of the places.
@@ -204,7 +204,7 @@ fn joined(alloc: Global, names: &[&str]) -> Result<Text, Memory>
 }
 
 /// The name of a key: of one field that field's; of more the one that is given, or theirs joined.
-fn key_name(alloc: Global, fields: &[&str], given: Option<&str>) -> Result<Text, Memory>
+pub fn key_name(alloc: Global, fields: &[&str], given: Option<&str>) -> Result<Text, Memory>
     ensures { IfOk result (λ text. text ≡ spec.key_name (map (λ name. name.now) fields.now) (option_copied given.entry)) }
 {
     match fields {

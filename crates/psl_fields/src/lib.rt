@@ -19,7 +19,7 @@ mod tests;
 pub use attributes::attributes_are_known;
 pub use counters::counters_are_ids;
 pub use field_types::{is_scalar, lists_are_of_models, types_are_known};
-pub use keys::{id_names, keys_are_distinct, keys_of, one_id};
+pub use keys::{id_names, key_name, keys_are_distinct, keys_of, one_id};
 pub use misgiven::arguments_are_right;
 pub use names::{field_names, field_names_are_distinct, member_names, type_names_are_distinct};
 pub use once::attributes_stand_once;

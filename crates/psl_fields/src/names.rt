@@ -6,7 +6,7 @@ ghost use Rattle.psl_rules.specs.Names as spec;
 
 use psl_parts::{blocks_of, earlier, first_repeat, noted};
 use psl_text::{Block, Entry, Name, Tree, Word};
-use qe_base::Memory;
+use qe_text::Memory;
 use std::alloc::Global;
 
 const RESERVED_NAMES: [&str; 10] = [

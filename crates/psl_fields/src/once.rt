@@ -6,7 +6,7 @@ ghost use Rattle.psl_rules.specs.Attributes as spec;
 
 use psl_parts::{earlier, first_repeat};
 use psl_text::{Attribute, Block, Entry, Name, Tree, Word};
-use qe_base::Memory;
+use qe_text::Memory;
 use std::alloc::Global;
 
 fn names_of(alloc: Global, attributes: &[Attribute]) -> Result<Vec<&Name>, Memory>

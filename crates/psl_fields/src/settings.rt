@@ -8,7 +8,7 @@ ghost use Rattle.psl_rules.specs.Settings as spec;
 
 use psl_parts::{blocks_of, earlier, first_repeat, noted};
 use psl_text::{Argument, Block, Entry, Name, Term, Tree, Word};
-use qe_base::Memory;
+use qe_text::Memory;
 use std::alloc::Global;
 
 /// The first of the places of the blocks' names.

@@ -1,7 +1,7 @@
 //! What a term is.
 ghost use Rattle.std.specs.Prelude.{◌≡◌, ◌&&◌, ◌||◌, ◌==◌, is_some, nat_le};
 ghost use Rattle.std.specs.List.{list_all};
-ghost use Rattle.qe_base.specs.Accepted.{is_letter, is_word, is_name};
+ghost use Rattle.qe_text.specs.Names.{is_letter, is_word, is_name};
 ghost use Rattle.psl_rules.specs.Parts.{text_in, name_in, is_list_of_names};
 ghost use Rattle.psl_rules.specs.Arguments as spec;
 

@@ -3,7 +3,7 @@ ghost use Rattle.std.specs.Prelude.{◌≡◌, IfOk, OnOk, map, ◌++◌, option
 ghost use Rattle.psl_rules.specs.Parts as spec;
 
 use psl_text::{Argument, Attribute, Name, Term};
-use qe_base::Memory;
+use qe_text::Memory;
 use std::alloc::Global;
 
 /// Whether an attribute has this name.

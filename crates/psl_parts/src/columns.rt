@@ -6,7 +6,9 @@ ghost use Rattle.psl_rules.specs.Names as names;
 ghost use Rattle.psl_rules.specs.Attributes as spec;
 
 use crate::arguments::is_among;
+use crate::types::Types;
 use psl_text::{Block, Entry, Tree, Word};
+use qe_text::Text;
 
 /// The types of single values.
 const SCALAR_NAMES: [&str; 6] = ["String", "Boolean", "Int", "BigInt", "DateTime", "Bytes"];
@@ -37,14 +39,14 @@ pub fn names_enum(tree: &Tree, name: &str) -> bool
 }
 
 /// Whether a type is a scalar or an enum.
-pub fn is_value_type(tree: &Tree, kind: &str) -> bool
-    ensures { result ≡ names.is_value_type tree.now kind.now }
+pub fn is_value_type(types: &Types, kind: &Text) -> bool
+    ensures { result ≡ names.is_value_type types.now kind.now }
 {
-    is_among(kind, &SCALAR_NAMES) || names_enum(tree, kind)
+    is_among(kind.as_str(), &SCALAR_NAMES) || types.is_enum(kind)
 }
 
-fn is_column_named(tree: &Tree, entry: &Entry, name: &str) -> bool
-    ensures { result ≡ list_any (λ field. bytes_eq name.now field.name.text && names.is_column tree.now field) (option_to_list (field_of entry.now)) }
+fn is_column_named(types: &Types, entry: &Entry, name: &str) -> bool
+    ensures { result ≡ list_any (λ field. bytes_eq name.now field.name.text && names.is_column types.now field) (option_to_list (field_of entry.now)) }
 {
     match entry {
         Entry::Setting { .. } => false,
@@ -53,28 +55,28 @@ fn is_column_named(tree: &Tree, entry: &Entry, name: &str) -> bool
             name: field,
             kind,
             ..
-        } => name == field.text.as_str() && is_value_type(tree, kind.text.as_str()),
+        } => name == field.text.as_str() && is_value_type(types, &kind.text),
         Entry::Block { .. } => false,
     }
 }
 
 /// Whether a column of the model has this name.
-fn names_column(tree: &Tree, model: &Block, name: &str) -> bool
-    ensures { result ≡ spec.names_column tree.now model.now name.now }
+fn names_column(types: &Types, model: &Block, name: &str) -> bool
+    ensures { result ≡ spec.names_column types.now model.now name.now }
 {
     for entry in model.entries.as_slice() {
-        if is_column_named(tree, entry, name) {
+        if is_column_named(types, entry, name) {
             return true;
         }
     }
     false
 }
 
-fn are_columns(tree: &Tree, model: &Block, names: &[&str]) -> bool
-    ensures { result ≡ list_all (spec.names_column tree.now model.now) (map (λ name. name.now) names.now) }
+fn are_columns(types: &Types, model: &Block, names: &[&str]) -> bool
+    ensures { result ≡ list_all (spec.names_column types.now model.now) (map (λ name. name.now) names.now) }
 {
     for name in names {
-        if !names_column(tree, model, name) {
+        if !names_column(types, model, name) {
             return false;
         }
     }
@@ -93,8 +95,8 @@ fn are_distinct(names: &[&str]) -> bool
 }
 
 /// Whether these are names of columns of the model, one at least, none twice.
-pub fn name_columns(tree: &Tree, model: &Block, names: &[&str]) -> bool
-    ensures { result ≡ spec.name_columns tree.now model.now (map (λ name. name.now) names.now) }
+pub fn name_columns(types: &Types, model: &Block, names: &[&str]) -> bool
+    ensures { result ≡ spec.name_columns types.now model.now (map (λ name. name.now) names.now) }
 {
-    !names.is_empty() && are_distinct(names) && are_columns(tree, model, names)
+    !names.is_empty() && are_distinct(names) && are_columns(types, model, names)
 }

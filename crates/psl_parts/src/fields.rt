@@ -7,7 +7,7 @@ ghost use Rattle.psl_rules.specs.Foreign as spec;
 
 use crate::arguments::is_called;
 use psl_text::{Attribute, Block, Entry, Mark, Name};
-use qe_base::Memory;
+use qe_text::Memory;
 use std::alloc::Global;
 use std::marker::Model;
 

@@ -3,7 +3,7 @@ ghost use Rattle.std.specs.Prelude.{◌≡◌, IfOk, map};
 ghost use Rattle.psl_rules.specs.Parts.{blocks_of, datasources, models, enums};
 
 use psl_text::{Block, Tree, Word};
-use qe_base::Memory;
+use qe_text::Memory;
 use std::alloc::Global;
 
 /// The blocks that begin with a word, in text order.

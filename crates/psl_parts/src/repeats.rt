@@ -6,7 +6,7 @@ ghost use Rattle.psl_rules.specs.Names.{same_name};
 use crate::first::noted;
 use indexmap::IndexSet;
 use psl_text::Name;
-use qe_base::Memory;
+use qe_text::Memory;
 use std::alloc::Global;
 
 /// The first place of a name that an earlier one is like.

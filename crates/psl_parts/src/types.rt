@@ -8,7 +8,7 @@ ghost use Rattle.psl_rules.specs.Names as spec;
 use crate::parts::blocks_of;
 use indexmap::IndexSet;
 use psl_text::{Tree, Word};
-use qe_base::{Memory, Text};
+use qe_text::{Memory, Text};
 use std::alloc::Global;
 use std::marker::Model;
 

@@ -1,2 +1,5 @@
+pub mod Exchanged
+pub mod Gathered
 pub mod Lowered
-pub mod Rounds
+pub mod Stepped
+pub mod Walked

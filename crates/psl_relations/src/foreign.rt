@@ -8,6 +8,7 @@ ghost use Rattle.psl_rules.specs.Relations.{has_fields, is_list, end_place, pair
 ghost use Rattle.psl_rules.specs.Foreign as spec;
 
 use crate::relations::{End, Pair, ends, pairs, partners};
+use crate::sides::Sides;
 use psl_fields::{id_names, keys_of};
 use psl_parts::{
     Types, are_optional, are_required, blocks_of, earlier, fields_named, given, have_same_types,
@@ -15,7 +16,7 @@ use psl_parts::{
 };
 use psl_rules::Key;
 use psl_text::{Attribute, Block, Tree, Word};
-use qe_base::{Memory, Text};
+use qe_text::{Memory, Text};
 use std::alloc::Global;
 
 const ACTIONS: [&str; 3] = ["Cascade", "Restrict", "SetNull"];
@@ -68,7 +69,7 @@ pub fn actions_are_known(alloc: Global, types: &Types) -> Result<Option<usize>, 
 }
 
 /// The ends that hold a foreign key.
-fn holders<'e, 'a>(alloc: Global, ends: &'e [End<'a>]) -> Result<Vec<&'e End<'a>>, Memory>
+pub fn holders<'e, 'a>(alloc: Global, ends: &'e [End<'a>]) -> Result<Vec<&'e End<'a>>, Memory>
     ensures { IfOk result (λ held. map (λ end. end.now) held.items ≡ filter has_fields ends.now) }
 {
     let mut held = Vec::new(alloc);
@@ -164,11 +165,11 @@ pub fn foreign_keys_are_whole(alloc: Global, types: &Types) -> Result<Option<usi
 }
 
 /// Whether these are names of columns of each model that the end leads to.
-fn are_columns_of_targets(tree: &Tree, models: &[&Block], end: &End, names: &[&str]) -> bool
-    ensures { result ≡ spec.of_target (map (λ model. model.now) models.now) end.now (λ model. name_columns tree.now model (map (λ name. name.now) names.now)) }
+fn are_columns_of_targets(types: &Types, models: &[&Block], end: &End, names: &[&str]) -> bool
+    ensures { result ≡ spec.of_target (map (λ model. model.now) models.now) end.now (λ model. name_columns types.now model (map (λ name. name.now) names.now)) }
 {
     for model in models {
-        if end.leads_to(model) && !name_columns(tree, model, names) {
+        if end.leads_to(model) && !name_columns(types, model, names) {
             return false;
         }
     }
@@ -176,28 +177,28 @@ fn are_columns_of_targets(tree: &Tree, models: &[&Block], end: &End, names: &[&s
 }
 
 /// Whether the foreign key and what it refers to are columns, equally many.
-fn names_columns(alloc: Global, tree: &Tree, models: &[&Block], end: &End) -> Result<bool, Memory>
-    ensures { IfOk result (λ names. names ≡ spec.names_columns tree.now (map (λ model. model.now) models.now) end.now) }
+fn names_columns(alloc: Global, types: &Types, models: &[&Block], end: &End) -> Result<bool, Memory>
+    ensures { IfOk result (λ names. names ≡ spec.names_columns types.now (map (λ model. model.now) models.now) end.now) }
 {
     let own = end.own_names(alloc)?;
     let other = end.other_names(alloc)?;
-    let has_columns = name_columns(tree, end.model(), own.as_slice());
-    let refers_to_columns = are_columns_of_targets(tree, models, end, other.as_slice());
+    let has_columns = name_columns(types, end.model(), own.as_slice());
+    let refers_to_columns = are_columns_of_targets(types, models, end, other.as_slice());
     Ok(has_columns && refers_to_columns && own.len() == other.len())
 }
 
 /// The first holder of a key that isn't of columns.
 fn first_without_columns(
     alloc: Global,
-    tree: &Tree,
+    types: &Types,
     models: &[&Block],
     held: &[&End],
 ) -> Result<Option<usize>, Memory>
-    ensures { IfOk result (λ found. found ≡ first (failing (spec.names_columns tree.now (map (λ model. model.now) models.now)) end_place (map (λ end. end.now) held.now))) }
+    ensures { IfOk result (λ found. found ≡ first (failing (spec.names_columns types.now (map (λ model. model.now) models.now)) end_place (map (λ end. end.now) held.now))) }
 {
     let mut found = None;
     for end in held {
-        let names_columns = names_columns(alloc, tree, models, end)?;
+        let names_columns = names_columns(alloc, types, models, end)?;
         found = noted(found, !names_columns, end.place());
     }
     Ok(found)
@@ -211,7 +212,7 @@ pub fn references_are_columns(alloc: Global, types: &Types) -> Result<Option<usi
     let models = blocks_of(alloc, types.tree(), Word::Model)?;
     let ends = ends(alloc, types)?;
     let held = holders(alloc, ends.as_slice())?;
-    first_without_columns(alloc, types.tree(), models.as_slice(), held.as_slice())
+    first_without_columns(alloc, types, models.as_slice(), held.as_slice())
 }
 
 fn is_one_of(name: &str, fields: &[Text]) -> bool
@@ -330,22 +331,27 @@ fn has_list(ends: &[&End]) -> bool
 }
 
 /// Whether a relation of one row to one holds its foreign key once.
-fn is_once(alloc: Global, ends: &[End], end: &End) -> Result<bool, Memory>
-    ensures { IfOk result (λ is. is ≡ spec.is_once ends.now end.now) }
+fn is_once<'e, 'a>(alloc: Global, sides: &Sides<'e, 'a>, end: &End<'a>) -> Result<bool, Memory>
+    ensures { IfOk result (λ is. is ≡ spec.is_once sides.now end.now) }
 {
-    let partners = partners(alloc, end, ends)?;
+    let partners = partners(alloc, end, sides)?;
     let names = end.own_names(alloc)?;
     let is_key = is_key_of(alloc, end.model(), names.as_slice())?;
     Ok(has_list(partners.as_slice()) || is_key)
 }
 
 /// The first holder of a key that two rows may have, though its relation is of one row to one.
-fn first_not_once(alloc: Global, ends: &[End], held: &[&End]) -> Result<Option<usize>, Memory>
+fn first_not_once<'a>(
+    alloc: Global,
+    ends: &[End<'a>],
+    held: &[&End<'a>],
+) -> Result<Option<usize>, Memory>
     ensures { IfOk result (λ found. found ≡ first (failing (spec.is_once ends.now) end_place (map (λ end. end.now) held.now))) }
 {
+    let sides = Sides::of(alloc, ends)?;
     let mut found = None;
     for end in held {
-        let is_once = is_once(alloc, ends, end)?;
+        let is_once = is_once(alloc, &sides, end)?;
         found = noted(found, !is_once, end.place());
     }
     Ok(found)

@@ -3,17 +3,21 @@
 
 mod foreign;
 mod limits;
+mod referred;
 mod relations;
+mod sides;
 mod stored;
 #[cfg(test)]
 mod tests;
 mod updates;
+mod walks;
 
 pub use foreign::{
-    actions_are_known, foreign_keys_are_whole, one_to_one_is_unique, references_are_columns,
-    references_are_keys, references_have_the_type,
+    action, actions_are_known, foreign_keys_are_whole, holders, one_to_one_is_unique,
+    references_are_columns, references_are_keys, references_have_the_type,
 };
 pub use limits::limits_hold;
 pub use relations::{End, Pair, ends, ends_are_paired, pairs, pairs_have_a_holder, partners};
-pub use stored::{stored_names_are_distinct, stored_tables};
+pub use sides::Sides;
+pub use stored::{link_name, mapped_model, stored_names_are_distinct, stored_tables};
 pub use updates::updates_form_no_cycle;

@@ -9,7 +9,7 @@ use crate::stored::{references, stored_tables};
 use psl_fields::{field_names, member_names};
 use psl_parts::{Types, blocks_of, earlier, noted};
 use psl_text::{Block, Name, Tree, Word};
-use qe_base::Memory;
+use qe_text::Memory;
 use std::alloc::Global;
 
 const MOST_TABLES: usize = 256;

@@ -1,12 +1,13 @@
 //! Relations: pairs of fields that lead to each other's model.
-ghost use Rattle.std.specs.Prelude.{◌≡◌, ◌++◌, IfOk, OnOk, map, option_copied};
+ghost use Rattle.std.specs.Prelude.{◌≡◌, ◌==◌, ◌++◌, IfOk, OnOk, map, not, option_copied};
 ghost use Rattle.psl_rules.specs.Parts.{first, failing};
 ghost use Rattle.psl_rules.specs.Names.{is_optional};
 ghost use Rattle.psl_rules.specs.Relations as spec;
 
+use crate::sides::Sides;
 use psl_parts::{Field, Types, blocks_of, given, given_names, given_text, noted};
 use psl_text::{Attribute, Block, Entry, Word};
-use qe_base::Memory;
+use qe_text::Memory;
 use std::alloc::Global;
 use std::marker::Model;
 
@@ -29,19 +30,14 @@ impl<'a> Model for End<'a> {
     ghost view = { λ e. record { model = e.model.now; field = e.field } };
 }
 
-/// Whether two relations have the same name, or none.
-fn is_same_relation(one: Option<&str>, other: Option<&str>) -> bool
-    ensures { result ≡ spec.same_relation (option_copied one.entry) (option_copied other.entry) }
-{
-    match (one, other) {
-        (None, None) => true,
-        (None, Some(_)) => false,
-        (Some(_), None) => false,
-        (Some(name), Some(other)) => name == other,
-    }
-}
-
 impl<'a> End<'a> {
+    /// A field as an end, in its model.
+    pub fn of(model: &'a Block, field: Field<'a>) -> End<'a>
+        ensures { result ≡ spec.end_in model.now field.entry }
+    {
+        End { model, field }
+    }
+
     pub fn model(&self) -> &'a Block
         ensures { result.now ≡ self.now.model }
     {
@@ -146,14 +142,11 @@ impl<'a> End<'a> {
         self.field().kind().text.is_same(model.name.text.as_str())
     }
 
-    /// Whether the other leads back, by the same relation, and is another field.
-    fn is_partner(&self, other: &End) -> bool
-        ensures { result ≡ spec.is_partner self.now other.now }
+    /// Whether the other is another field.
+    fn is_other(&self, other: &End) -> bool
+        ensures { result ≡ not (spec.end_place self.now == spec.end_place other.now) }
     {
-        self.leads_to(other.model())
-            && other.leads_to(self.model())
-            && is_same_relation(self.relation_name(), other.relation_name())
-            && self.place() != other.place()
+        self.place() != other.place()
     }
 
     fn stands_together(&self) -> bool
@@ -273,32 +266,49 @@ pub fn ends<'a>(alloc: Global, types: &Types<'a>) -> Result<Vec<End<'a>>, Memory
     Ok(ends)
 }
 
-/// The partners of an end. This looks at all ends, so that to find the partners of each takes time in
-/// the square of their count.
+/// The partners of an end.
+#[tactic(auto, using(crate::proofs::Gathered::partners_found))]
 pub fn partners<'e, 'a>(
     alloc: Global,
-    end: &End,
-    ends: &'e [End<'a>],
+    end: &End<'a>,
+    sides: &Sides<'e, 'a>,
 ) -> Result<Vec<&'e End<'a>>, Memory>
-    ensures { IfOk result (λ found. map (λ other. other.now) found.items ≡ spec.partners_among ends.now end.now) }
+    ensures { IfOk result (λ found. map (λ other. other.now) found.items ≡ spec.partners_among sides.now end.now) }
 {
     let mut found = Vec::new(alloc);
-    for other in ends {
-        if end.is_partner(other) {
-            found.push(other)?;
+    for other in sides.leading_back(end) {
+        if end.is_other(other) {
+            found.push(*other)?;
         }
     }
     Ok(found)
+}
+
+/// Whether an end has exactly one partner.
+#[tactic(auto, using(crate::proofs::Gathered::one_at_end, crate::proofs::Gathered::second_one, crate::proofs::Gathered::first_one, crate::proofs::Gathered::passed_by))]
+fn has_one_partner<'e, 'a>(end: &End<'a>, sides: &Sides<'e, 'a>) -> bool
+    ensures { result ≡ spec.has_one_partner sides.now end.now }
+{
+    let mut found = false;
+    for other in sides.leading_back(end) {
+        if end.is_other(other) {
+            if found {
+                return false;
+            }
+            found = true;
+        }
+    }
+    found
 }
 
 /// The first end that hasn't exactly one partner.
 fn first_unpaired(alloc: Global, ends: &[End]) -> Result<Option<usize>, Memory>
     ensures { IfOk result (λ found. found ≡ first (failing (spec.has_one_partner ends.now) spec.end_place ends.now)) }
 {
+    let sides = Sides::of(alloc, ends)?;
     let mut found = None;
     for end in ends {
-        let partners = partners(alloc, end, ends)?;
-        found = noted(found, partners.len() != 1, end.place());
+        found = noted(found, !has_one_partner(end, &sides), end.place());
     }
     Ok(found)
 }
@@ -334,9 +344,10 @@ fn push_pairs<'e, 'a>(
 pub fn pairs<'e, 'a>(alloc: Global, ends: &'e [End<'a>]) -> Result<Vec<Pair<'e, 'a>>, Memory>
     ensures { IfOk result (λ pairs. pairs.items ≡ spec.pairs_among ends.now) }
 {
+    let sides = Sides::of(alloc, ends)?;
     let mut pairs = Vec::new(alloc);
     for end in ends {
-        let partners = partners(alloc, end, ends)?;
+        let partners = partners(alloc, end, &sides)?;
         push_pairs(&mut pairs, end, partners.as_slice())?;
     }
     Ok(pairs)

@@ -3,7 +3,7 @@ ghost use Rattle.std.specs.Char.{to_ascii_lowercase};
 ghost use Rattle.std.specs.Prelude.{◌≡◌, ◌==◌, ◌&&◌, ◌||◌, ◌++◌, IfOk, OnOk, map, filter, nat_lt, nat_le, unwrap_or, codes, true};
 ghost use Rattle.std.specs.List.{list_any, flat_map, starts_with};
 ghost use Rattle.std.specs.Str.{str_to_ascii_lowercase};
-ghost use Rattle.qe_base.specs.Accepted.{is_stored_name};
+ghost use Rattle.qe_text.specs.Names.{is_stored_name};
 ghost use Rattle.psl_rules.specs.Parts.{first, failing, place, models, block_attributes, given_text, is_among};
 ghost use Rattle.psl_rules.specs.Names.{scalar_names, names_enum};
 ghost use Rattle.psl_rules.specs.Relations.{is_linked, relation_name};
@@ -13,7 +13,7 @@ use crate::relations::{Pair, ends, pairs};
 use psl_fields::is_scalar;
 use psl_parts::{Types, blocks_of, earlier, first_repeat, given_text, is_called, noted};
 use psl_text::{Attribute, Block, Entry, Name, Word};
-use qe_base::{Memory, Text};
+use qe_text::{Memory, Text};
 use std::alloc::Global;
 use std::cmp::Ordering;
 
@@ -75,7 +75,7 @@ fn mapped_field<'a>(own: &'a Text, attributes: &'a [Attribute]) -> &'a str
 }
 
 /// The name that `@@map` gives a model, or else its own one.
-fn mapped_model(model: &Block) -> &str
+pub fn mapped_model(model: &Block) -> &str
     ensures { result.now ≡ spec.mapped model.now.name.text (block_attributes model.now) }
 {
     for entry in model.entries.as_slice() {
@@ -226,7 +226,7 @@ fn after_low_line(alloc: Global, name: &str) -> Result<Text, Memory>
 }
 
 /// `_` and the relation's name, or the names of the models that are linked.
-fn link_name(alloc: Global, pair: &Pair) -> Result<Text, Memory>
+pub fn link_name(alloc: Global, pair: &Pair) -> Result<Text, Memory>
     ensures { IfOk result (λ name. name ≡ spec.link_name (relation_name pair.now.first) pair.now.first.model.name.text pair.now.second.model.name.text) }
 {
     let first = pair.first();

@@ -1,7 +1,7 @@
 -- What arguments an attribute takes.
 use Rattle.std.specs.Prelude.{ℕ, List, [], ◌∷◌, Bool, true, false, ◌&&◌, ◌||◌, ◌≡◌, not, length, nat_le, map, filter, if◌then◌else◌, Option, Some, None, is_some, bytes_eq, codes}
 use Rattle.std.specs.List.{list_any, list_all}
-use Rattle.qe_base.specs.Accepted.{is_name}
+use Rattle.qe_text.specs.Names.{is_name}
 use Rattle.psl_text.specs.declared.tree.Term.{Term}
 use Rattle.psl_text.specs.declared.tree.Argument.{Argument, out-Argument}
 use Rattle.psl_text.specs.declared.tree.Attribute.{Attribute}

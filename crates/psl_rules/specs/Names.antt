@@ -1,7 +1,7 @@
 -- The names of models, enums, fields and members, and the types of fields.
 use Rattle.std.specs.Prelude.{ℕ, List, [], ◌∷◌, ◌++◌, Bool, true, false, ◌||◌, not, map, filter, bytes_eq, codes}
 use Rattle.std.specs.List.{list_any, flat_map}
-use Rattle.qe_base.specs.Accepted.{reserved_names, filter_names}
+use Rattle.qe_text.specs.Names.{reserved_names, filter_names}
 use Rattle.psl_text.specs.declared.tree.Name.{Name}
 use Rattle.psl_text.specs.declared.tree.Mark.{Mark}
 use Rattle.psl_text.specs.declared.tree.Mark.TheVariants as mark

@@ -6,7 +6,7 @@ use Rattle.std.specs.Cmp.Lexicographic.{slice_cmp}
 use Rattle.std.specs.declared.cmp.Ordering.{Ordering}
 use Rattle.std.specs.declared.cmp.Ordering.TheVariants.{Less, Equal, Greater}
 use Rattle.std.specs.Str.{str_to_ascii_lowercase}
-use Rattle.qe_base.specs.Accepted.{is_stored_name}
+use Rattle.qe_text.specs.Names.{is_stored_name}
 use Rattle.psl_text.specs.declared.tree.Attribute.{Attribute}
 use Rattle.psl_text.specs.declared.tree.Block.{Block}
 use Rattle.psl_text.specs.declared.tree.Name.{Name}

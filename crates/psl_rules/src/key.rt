@@ -1,6 +1,6 @@
 //! Keys of models.
 use psl_text::Name;
-use qe_base::{Items, Text};
+use qe_text::{Items, Text};
 
 /// An id or a unique: its name, at the place of its attribute, and its fields.
 #[derive(Drop)]

@@ -1,10 +1,8 @@
-//! Schemas of the plain form of trees: a datasource and one model, whose fields are numbers and texts.
+//! From the tree of a schema text to its value, or to the first rule that it breaks.
 #![tactic(auto)]
 
-mod accept;
-mod form;
-mod tables;
+mod checking;
 #[cfg(test)]
 mod tests;
 
-pub use form::{PlainFault, check};
+pub use checking::{SchemaFault, check};

@@ -8,7 +8,7 @@ use crate::parser::Parser;
 use crate::term::{MAX_DEPTH, arguments};
 use crate::token::Kind;
 use crate::tree::{Argument, Attribute, Name};
-use qe_base::{Items, Memory, Text};
+use qe_text::{Items, Memory, Text};
 use std::alloc::Global;
 
 /// The text of two names with a dot between them.

@@ -9,7 +9,7 @@ use crate::parser::Parser;
 use crate::term::{MAX_DEPTH, term};
 use crate::token::Kind;
 use crate::tree::{Block, Entry, Mark, Word};
-use qe_base::{Items, Text};
+use qe_text::{Items, Text};
 
 #[tactic(auto, unfolding(crate::specs::Grammar::mark_of))]
 fn mark(parser: &mut Parser<'_>) -> Result<Mark, TextFault>

@@ -1,5 +1,5 @@
 //! Why a text has no tree.
-use qe_base::Memory;
+use qe_text::Memory;
 use std::alloc::{AllocError, AllocFailed};
 
 /// Why a text has no tree, with the place of the fault in bytes from the front.

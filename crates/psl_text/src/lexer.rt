@@ -6,7 +6,7 @@ ghost use Rattle.psl_text.specs.Lex as spec;
 
 use crate::scan::{byte_at, front, last_blanks};
 use crate::token::{Kind, Token};
-use qe_base::{Items, Memory, Text};
+use qe_text::{Items, Memory, Text};
 use std::alloc::Global;
 
 /// An open bracket.

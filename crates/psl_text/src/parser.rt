@@ -6,7 +6,7 @@ ghost use Rattle.psl_text.specs.Parser.{Reads};
 use crate::fault::TextFault;
 use crate::token::{Kind, Token};
 use crate::tree::Name;
-use qe_base::{Items, Memory, Text};
+use qe_text::{Items, Memory, Text};
 use std::alloc::Global;
 use std::marker::Model;
 

@@ -6,7 +6,7 @@ use crate::fault::TextFault;
 use crate::parser::Parser;
 use crate::token::Kind;
 use crate::tree::{Argument, Name, Term};
-use qe_base::Items;
+use qe_text::Items;
 
 /// How deep terms nest.
 pub const MAX_DEPTH: usize = 16;

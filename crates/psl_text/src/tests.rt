@@ -1,5 +1,5 @@
 use super::*;
-use qe_base::{Items, Memory, Text};
+use qe_text::{Items, Memory, Text};
 use std::alloc::Global;
 use std::process::Abort;
 use std::test::Fail;

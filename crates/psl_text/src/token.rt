@@ -1,5 +1,5 @@
 //! Tokens.
-use qe_base::{Items, Text};
+use qe_text::{Items, Text};
 
 /// What stands at a place of a text.
 #[derive(Clone, Copy, Debug, PartialEq, Eq)]

@@ -1,5 +1,5 @@
 //! The tree of a schema text. Each `at` is the place of the first byte.
-use qe_base::{Items, Text};
+use qe_text::{Items, Text};
 
 /// A whole text: its blocks in order, and how many bytes it has.
 #[derive(Drop)]

@@ -1,7 +1,5 @@
-pub mod Accepted
 pub mod Calls
 pub mod Causes
-pub mod Lookup
 pub mod MemHost
 pub mod MemSink
 pub mod MemSource

@@ -2,10 +2,10 @@
 use Rattle.std.specs.Cmp.{IsPartialEquivalence, IsEquivalence, IsPartialOrder, IsTotalOrder, then_total, on_total, nat_cmp_total, int_cmp_total, eq_by_cmp_equiv, partial_equiv_from_equiv, po}
 use Rattle.std.specs.Cmp.Lexicographic.{nat_list_cmp_total}
 use Rattle.std.proofs.Common.{refl}
-use Rattle.qe_base.specs.Values.{rank, text_in, number_in, value_cmp, value_partial_cmp, value_eq}
+use Rattle.qe_base.specs.Values.{rank, bytes_in, number_in, value_cmp, value_partial_cmp, value_eq}
 
 pub value_cmp_total : IsTotalOrder value_cmp
-value_cmp_total = then_total (on_total rank nat_cmp_total) (then_total (on_total text_in nat_list_cmp_total) (on_total number_in int_cmp_total))
+value_cmp_total = then_total (on_total rank nat_cmp_total) (then_total (on_total bytes_in nat_list_cmp_total) (on_total number_in int_cmp_total))
 
 pub value_eq_equivalence : IsEquivalence value_eq
 value_eq_equivalence = eq_by_cmp_equiv value_cmp_total

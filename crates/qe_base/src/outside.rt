@@ -10,10 +10,10 @@ mod mem_host;
 mod mem_sink;
 mod mem_source;
 
-use crate::text::Bytes;
 pub use mem_host::{HostCall, MemHost};
 pub use mem_sink::MemSink;
 pub use mem_source::MemSource;
+use qe_text::Bytes;
 
 /// A call of something outside failed.
 #[derive(Clone, Copy, Debug, PartialEq, Eq)]

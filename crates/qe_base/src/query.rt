@@ -1,6 +1,6 @@
 //! What is asked of rows: filters, orders, pages and selections.
-use crate::text::Text;
 use crate::value::{Row, Value};
+use qe_text::Text;
 use sqlite_items::{Boxed, Items};
 
 /// A row by one of its table's keys, if the filter holds of it too. `values` has one value for each

@@ -1,20 +1,20 @@
-//! Schemas: tables with their columns, keys and fields, relations, link tables and enums.
-ghost use Rattle.std.specs.Prelude.{◌≡◌, ◌<◌, length, IfOk, IfSome, slice_get, true, position, bytes_eq};
-ghost use Rattle.std.specs.Option.{option_copied};
-ghost use Rattle.qe_base.specs.Accepted.{is_accepted};
-ghost use Rattle.qe_base.specs.Lookup.{table_named, link_of};
-
-use crate::schema_copy::{copy_choices, copy_links, copy_relations, copy_tables};
-use crate::text::{Memory, Text};
-use crate::value::{EnumId, Kind, RelId, TableId};
-use sqlite_items::Items;
-use std::alloc::Global;
+//! What a schema is made of: tables with their columns, keys and fields, relations, link tables and
+//! enums.
+use crate::value::{Kind, RelId, TableId, Value};
+use qe_text::{Items, Text};
 
 /// What a new row has in a column that isn't given.
 #[derive(Drop)]
 pub enum Fill {
     /// Nothing: null.
     Absent,
+    Literal(Value),
+    /// The table's counter plus one.
+    Counter,
+    /// The moment of the operation.
+    Now,
+    /// The next identifier of the operation.
+    Uuid,
 }
 
 /// What happens to a row whose related row goes or changes.
@@ -97,97 +97,4 @@ pub struct Link {
 pub struct Choice {
     pub name: Text,
     pub members: Items<Text>,
-}
-
-fn position_of(tables: &[Table], name: &str) -> Option<usize>
-    ensures at { result ≡ position (λ table. bytes_eq table.name name.now) tables.now }
-    ensures within { IfSome result (λ at. at < length tables.now) }
-{
-    tables.iter().position(|table| table.name.is_same(name))
-}
-
-/// An accepted schema.
-#[derive(Drop)]
-pub struct Schema {
-    pub tables: Items<Table>,
-    pub relations: Items<Relation>,
-    pub links: Items<Link>,
-    pub choices: Items<Choice>,
-    pub ghost accepted: { is_accepted tables relations links choices ≡ true },
-}
-
-impl Schema {
-    /// How many tables there are, link tables among them.
-    pub fn tables(&self) -> u16
-        ensures { result ≡ length self.now.tables }
-    {
-        self.tables.len() as u16
-    }
-
-    /// The table of a number, or None where there is no such number.
-    pub fn table(&self, table: TableId) -> Option<&Table>
-        ensures { option_copied result ≡ slice_get self.now.tables table.0 }
-    {
-        sqlite_items::at(self.tables.as_slice(), table.0 as usize)
-    }
-
-    /// The table of a name, or None where no table has it.
-    pub fn find(&self, name: &str) -> Option<TableId>
-        ensures { result ≡ table_named name.now self.now.tables }
-    {
-        match position_of(self.tables.as_slice(), name) {
-            Some(at) => Some(TableId(at as u16)),
-            None => None,
-        }
-    }
-
-    /// How many relations there are.
-    pub fn relations(&self) -> u16
-        ensures { result ≡ length self.now.relations }
-    {
-        self.relations.len() as u16
-    }
-
-    /// The relation of a number, or None where there is no such number.
-    pub fn relation(&self, relation: RelId) -> Option<&Relation>
-        ensures { option_copied result ≡ slice_get self.now.relations relation.0 }
-    {
-        sqlite_items::at(self.relations.as_slice(), relation.0 as usize)
-    }
-
-    /// The link that a table keeps, or None where it is no link table.
-    pub fn link(&self, table: TableId) -> Option<&Link>
-        ensures { option_copied result ≡ link_of table.0 self.now.links }
-    {
-        self.links
-            .as_slice()
-            .iter()
-            .find(|link| link.table == table)
-    }
-
-    /// The enum of a number, or None where there is no such number.
-    pub fn choice(&self, choice: EnumId) -> Option<&Choice>
-        ensures { option_copied result ≡ slice_get self.now.choices choice.0 }
-    {
-        sqlite_items::at(self.choices.as_slice(), choice.0 as usize)
-    }
-
-    /// An equal schema.
-    pub fn copy(&self, alloc: Global) -> Result<Schema, Memory>
-        ensures tables { IfOk result (λ s. s.tables ≡ self.now.tables) }
-        ensures relations { IfOk result (λ s. s.relations ≡ self.now.relations) }
-        ensures links { IfOk result (λ s. s.links ≡ self.now.links) }
-        ensures choices { IfOk result (λ s. s.choices ≡ self.now.choices) }
-    {
-        let tables = copy_tables(alloc, &self.tables)?;
-        let relations = copy_relations(alloc, &self.relations)?;
-        let links = copy_links(alloc, &self.links)?;
-        let choices = copy_choices(alloc, &self.choices)?;
-        Ok(Schema {
-            tables,
-            relations,
-            links,
-            choices,
-        })
-    }
 }

@@ -2,10 +2,10 @@
 ghost use Rattle.std.specs.Prelude.{◌≡◌, IfOk};
 ghost use Rattle.std.proofs.Common.{rules};
 ghost use Rattle.std.specs.Cmp.Rules.{comparing};
-ghost use Rattle.qe_base.specs.Values.{value_cmp, value_partial_cmp, value_eq};
+ghost use Rattle.qe_base.specs.Values.{rank, bytes_in, number_in, value_cmp, value_partial_cmp, value_eq};
 ghost use Rattle.qe_base.specs.ValueOrder.{value_cmp_total, value_eq_equivalence, value_partial_order, value_partial_equivalence};
 
-use crate::text::{Memory, Text};
+use qe_text::{Bytes, Memory, Text};
 use sqlite_items::Items;
 use std::alloc::Global;
 use std::cmp::Ordering;
@@ -27,8 +27,18 @@ pub struct RelId(pub u16);
 pub enum Kind {
     /// Any text.
     Text,
+    /// True or false.
+    Bool,
     /// A whole number within 32 bits, signed.
     Int,
+    /// A whole number within 64 bits, signed.
+    Big,
+    /// Milliseconds since 1970-01-01T00:00:00Z, in the years 0000 to 9999.
+    Moment,
+    /// Any bytes.
+    Blob,
+    /// A member of an enum.
+    Member(EnumId),
 }
 
 /// What stands in a column of a row.
@@ -36,7 +46,13 @@ pub enum Kind {
 pub enum Value {
     Null,
     Text(Text),
+    Bool(bool),
+    /// A number of the kinds `Int` and `Big`.
     Int(i64),
+    Moment(i64),
+    Blob(Bytes),
+    /// A member by its number from 0.
+    Member(u16),
 }
 
 impl Value {
@@ -47,12 +63,61 @@ impl Value {
         match self {
             Value::Null => Ok(Value::Null),
             Value::Text(text) => Ok(Value::Text(text.copy(alloc)?)),
+            Value::Bool(truth) => Ok(Value::Bool(*truth)),
             Value::Int(number) => Ok(Value::Int(*number)),
+            Value::Moment(moment) => Ok(Value::Moment(*moment)),
+            Value::Blob(bytes) => Ok(Value::Blob(bytes.copy(alloc)?)),
+            Value::Member(member) => Ok(Value::Member(*member)),
+        }
+    }
+
+    /// The place of its kind in the order of values, null before all.
+    fn rank(&self) -> u8
+        ensures { result ≡ rank self.now }
+    {
+        match self {
+            Value::Null => 0,
+            Value::Text(_) => 1,
+            Value::Bool(_) => 2,
+            Value::Int(_) => 3,
+            Value::Moment(_) => 4,
+            Value::Blob(_) => 5,
+            Value::Member(_) => 6,
+        }
+    }
+
+    /// The bytes of a text or a blob, none of others.
+    fn bytes(&self) -> &[u8]
+        ensures { result.now ≡ bytes_in self.now }
+    {
+        match self {
+            Value::Null => &[],
+            Value::Text(text) => text.as_str().as_bytes(),
+            Value::Bool(_) => &[],
+            Value::Int(_) => &[],
+            Value::Moment(_) => &[],
+            Value::Blob(bytes) => bytes.as_slice(),
+            Value::Member(_) => &[],
+        }
+    }
+
+    /// The number that a value is or stands for, 0 of others.
+    fn number(&self) -> i64
+        ensures { result ≡ number_in self.now }
+    {
+        match self {
+            Value::Null => 0,
+            Value::Text(_) => 0,
+            Value::Bool(truth) => i64::from(*truth),
+            Value::Int(number) => *number,
+            Value::Moment(moment) => *moment,
+            Value::Blob(_) => 0,
+            Value::Member(member) => i64::from(*member),
         }
     }
 }
 
-/// Null comes first, then the texts by their bytes, then the numbers.
+/// Null comes first. Texts and blobs go by their bytes, false before true, all others by number.
 impl Ord for Value {
     ghost cmp = { value_cmp };
 
@@ -63,15 +128,10 @@ impl Ord for Value {
     ghost matches_eq = { Prim.search (comparing, rules) };
 
     fn cmp(&self, other: &Value) -> Ordering {
-        match (self, other) {
-            (Value::Null, Value::Null) => Ordering::Equal,
-            (Value::Null, _) => Ordering::Less,
-            (_, Value::Null) => Ordering::Greater,
-            (Value::Text(a), Value::Text(b)) => a.as_str().cmp(&b.as_str()),
-            (Value::Text(_), Value::Int(_)) => Ordering::Less,
-            (Value::Int(_), Value::Text(_)) => Ordering::Greater,
-            (Value::Int(a), Value::Int(b)) => a.cmp(b),
-        }
+        self.rank()
+            .cmp(&other.rank())
+            .then(self.bytes().cmp(other.bytes()))
+            .then(self.number().cmp(&other.number()))
     }
 }
 

@@ -1,5 +1,5 @@
 //! Operations, and the nested writes that they carry.
-use crate::query::{Filter, Pick, Unique};
+use crate::query::{Filter, Look, Pick, Unique};
 use crate::value::{TableId, Value};
 use sqlite_items::Items;
 
@@ -57,15 +57,66 @@ pub enum Step {
 /// An operation on one table.
 #[derive(Drop)]
 pub enum Op {
+    /// The row at a key, or null; where `strict`, a refusal in place of null.
     FindUnique {
         table: TableId,
         at: Unique,
         strict: bool,
         pick: Pick,
     },
+    /// The first row of a look, or null; where `strict`, a refusal in place of null.
+    FindFirst {
+        table: TableId,
+        look: Look,
+        strict: bool,
+        pick: Pick,
+    },
+    FindMany {
+        table: TableId,
+        look: Look,
+        pick: Pick,
+    },
+    /// How many rows a look has.
+    Count {
+        table: TableId,
+        look: Look,
+    },
     Create {
         table: TableId,
         tree: Create,
         pick: Pick,
+    },
+    /// With a pick the rows are answered, else their number.
+    CreateMany {
+        table: TableId,
+        trees: Items<Create>,
+        pick: Option<Pick>,
+    },
+    Update {
+        table: TableId,
+        at: Unique,
+        tree: Update,
+        pick: Pick,
+    },
+    UpdateMany {
+        table: TableId,
+        filter: Filter,
+        tree: Update,
+    },
+    Upsert {
+        table: TableId,
+        at: Unique,
+        create: Create,
+        update: Update,
+        pick: Pick,
+    },
+    Delete {
+        table: TableId,
+        at: Unique,
+        pick: Pick,
+    },
+    DeleteMany {
+        table: TableId,
+        filter: Filter,
     },
 }

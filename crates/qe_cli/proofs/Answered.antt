@@ -4,7 +4,7 @@ use Rattle.std.specs.Prelude.{Result, Ok, Err, OnOk, None}
 use Rattle.qe_base.specs.declared.answer.Answer.{Answer}
 use Rattle.qe_base.specs.declared.answer.OpFault.TheVariants as fault
 use Rattle.qe_base.specs.declared.answer.Rule.{Rule}
-use Rattle.qe_base.specs.declared.schema.Schema.{Schema}
+use Rattle.qe_schema.specs.Schemas.{Schema}
 use Rattle.qe_base.specs.declared.write.Op.{Op}
 use Rattle.qe_tables.specs.Tables.{Tables}
 use Rattle.qe_plain.specs.Plain.{plain}
@@ -16,7 +16,9 @@ use Rattle.qe_forms.specs.Request.{asked_of, asks, not_json, unbuilt, Asked}
 use Rattle.qe_forms.specs.Reply.{text_of, not_json_text, unbuilt_text, memory_text}
 use Rattle.qe_exchange.specs.Exchange.{told, entered, ComesOf, entry_of, outside}
 use Rattle.qe_ops.specs.Performs.{Performs}
-use Rattle.qe_cli.specs.Run.{Answers}
+use Rattle.qe_request.specs.declared.lines.LineFault.{LineFault}
+use Rattle.qe_request.specs.declared.lines.LineFault.TheVariants as lines
+use Rattle.qe_cli.specs.Run.{Answers, fault_text}
 
 pub on_ok : {T E : Type 0} {P Q : Type 0} (r : Result T E) → (P → Q) → OnOk r P → OnOk r Q
 on_ok (Ok x) f p = f p
@@ -55,6 +57,13 @@ memory_comes (asks op) = refl
 
 pub memory_told : (schema : Schema) (line : List ℕ) → ComesOf (asked_of schema line) (told memory_text)
 memory_told schema line = memory_comes (asked_of schema line)
+
+-- a line that has no operation, by why it has none
+pub fault_told : (schema : Schema) (line : List ℕ) (why : LineFault) (read : Result Op LineFault) → read ≡ Err why → (read ≡ Err lines.NotJson → asked_of schema line ≡ not_json) → (read ≡ Err lines.Unbuilt → asked_of schema line ≡ unbuilt)
+    → ComesOf (asked_of schema line) (told (fault_text why))
+fault_told schema line lines.NotJson read is none unread = not_json_told schema line (none is)
+fault_told schema line lines.Unbuilt read is none unread = unbuilt_told schema line (unread is)
+fault_told schema line lines.Memory read is none unread = memory_told schema line
 
 -- a line that is entered
 pub entered_answers : (schema : Schema) (line : List ℕ) (before : Tables) (op : Op) (reply : Reply) (bytes : List ℕ) (after : Tables) → asked_of schema line ≡ asks op → bytes ≡ text_of schema reply ++ 10 ∷ []

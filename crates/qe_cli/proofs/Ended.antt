@@ -1,11 +1,11 @@
 -- How a command ends.
-use Rattle.std.proofs.Common.{◌≡◌, ℕ, zero, suc, ◌+◌, ◌<◌, ◌≤◌, List, [], ◌∷◌, ◌++◌, Bool, true, false, refl, sym, ap, ◌∙◌, subst, append-nil, Option, Some, None, length, take, arith, inl, inr, ◌⊎◌, ◌==◌, leb-true, leb-false}
+use Rattle.std.proofs.Common.{◌≡◌, ℕ, zero, suc, ◌+◌, ◌<◌, ◌≤◌, List, [], ◌∷◌, ◌++◌, Bool, true, false, refl, sym, ap, ◌∙◌, subst, append-nil, Option, Some, None, length, take, arith, inl, inr, ◌⊎◌, ◌==◌, leb-true, leb-false, true≢false}
 use Rattle.std.specs.Prelude.{IfSome, IsSomeAnd, OnErr, OnOk, IsErr, Result, Ok, Err, nat_le, if◌then◌else◌, pos, ℤ, unwrap_or, flat_map, slice_get}
 use Rattle.std.proofs.Math.Seq.{take-length}
 use Rattle.qe_base.specs.Causes.{Rose}
 use Rattle.qe_base.specs.Outside.{Files, file_named}
 use Rattle.qe_base.specs.declared.outside.Failed.{Failed}
-use Rattle.qe_base.specs.declared.schema.Schema.{Schema}
+use Rattle.qe_schema.specs.Schemas.{Schema}
 use Rattle.qe_base.specs.declared.value.Row.{Row}
 use Rattle.qe_tables.specs.Tables.{Tables, no_rows}
 use Rattle.qe_mem.specs.Kept.{Kept}
@@ -29,8 +29,8 @@ use Rattle.qe_cli.specs.declared.refusal.Refusal.{Refusal}
 use Rattle.qe_cli.specs.declared.refusal.Refusal.TheVariants as refusal
 use Rattle.qe_cli.specs.declared.words.Command.{Command}
 use Rattle.qe_cli.specs.declared.words.Command.TheVariants as command
-use Rattle.qe_cli.specs.Asked.{command_of, Asks}
-use Rattle.qe_cli.specs.Command.{line_of, status_of, end_from, RunComes, SchemaComes, WithSchema, Comes, Prints, FileHolds, NamesSchema, Untouched, AnswersAll, SaysOk, SaysWhy}
+use Rattle.qe_cli.specs.Asked.{command_of, Asks, ReadsAlone}
+use Rattle.qe_cli.specs.Command.{line_of, status_of, end_from, RunComes, SchemaComes, WithSchema, Comes, Prints, FileHolds, NamesSchema, Untouched, AnswersAll, SaysOk, SaysLayout, TextComes, LayoutComes, laid_out, SaysWhy}
 use Rattle.qe_cli.specs.Refused.{HasSchema, Refuses, Unread, refusal_line}
 use Rattle.qe_cli.specs.Ends.{EndsRun, Finishes, Halts, longest_input}
 use Rattle.qe_cli.specs.Kept.{Appends, AppendsPart}
@@ -40,18 +40,6 @@ use Rattle.qe_cli.proofs.Reading.{reading_none, reading_halts}
 pub printed : (result : Result (Unit {0}) Failed) (line : List ℕ) (taken now : Option (List ℕ)) (rose : Type 0) → OnOk result (Appends taken now line) → OnErr result (AppendsPart taken now line) → (IsErr result → rose) → Prints line rose taken now
 printed (Ok done) line taken now rose ok err cause = (length line, subst (Appends taken now) (sym (take-length line)) ok, inl (omega arith))
 printed (Err failed) line taken now rose ok err cause = (err.0, err.2, inr (cause refl))
-
-when_none : {A : Type 0} (b : Bool) (x : A) → (if b then x else x) ≡ x
-when_none true x = refl
-when_none false x = refl
-
--- nothing is kept at first
-pub none_kept : (kept : Kept) (column : ℕ) → kept ≡ record { column = column; rows = []; last = pos 0 } → tables_of kept ≡ no_rows
-none_kept kept column is =
-    let rows : (λ (t : ℕ). let r : List Row = if t == 0 then [] else [] in r) ≡ (λ (t : ℕ). let r : List Row = [] in r) = λ i t. when_none (t == 0) (let r : List Row = [] in r) i in
-    let last : (λ (t : ℕ). if t == 0 then pos 0 else pos 0) ≡ (λ (t : ℕ). pos 0) = λ i t. when_none (t == 0) (pos 0) i in
-    ap tables_of is ∙ ap (λ (r : ℕ → List Row). let ts : Tables = record { rows = r; last = λ (t : ℕ). if t == 0 then pos 0 else pos 0; pairs = λ t. [] } in ts) rows
-    ∙ ap (λ (l : ℕ → ℤ). let ts : Tables = record { rows = λ t. []; last = l; pairs = λ t. [] } in ts) last
 
 -- memory was short before anything was read
 pub halts_at_once : (schema : Schema) (tables : Tables) (left taken : Option (List ℕ)) → Halts false schema tables left left taken taken
@@ -67,11 +55,11 @@ run_at lines.ReadFault schema after before left taken now ends = ends
 run_at lines.WriteFault schema after before left taken now ends = ends
 run_at lines.Memory schema after before left taken now ends = ends
 
-pub run_ended : (result : End) (lines : LinesEnd) (schema : Schema) (kept : Kept) (after : Tables) (column : ℕ) (before left taken now : Option (List ℕ)) → kept ≡ record { column = column; rows = []; last = pos 0 } → result ≡ end_from lines → EndsRun lines schema (tables_of kept) after before left taken now
+pub run_ended : (result : End) (lines : LinesEnd) (schema : Schema) (kept : List Kept) (after : Tables) (before left taken now : Option (List ℕ)) → tables_of kept ≡ no_rows → result ≡ end_from lines → EndsRun lines schema (tables_of kept) after before left taken now
     → RunComes result schema before left taken now
-run_ended result lines schema kept after column before left taken now kept_is is ends =
+run_ended result lines schema kept after before left taken now empty is ends =
     subst (λ e. RunComes e schema before left taken now) (sym is)
-    (run_at lines schema after before left taken now (subst (λ t. EndsRun lines schema t after before left taken now) (none_kept kept column kept_is) ends))
+    (run_at lines schema after before left taken now (subst (λ t. EndsRun lines schema t after before left taken now) empty ends))
 
 -- ---- the schema's text
 
@@ -115,7 +103,7 @@ refusal_alike (refusal.BadCharacter at) a b long other has = fault_alike (fault.
 refusal_alike (refusal.Unclosed at) a b long other has = fault_alike (fault.Unclosed at) a b long other has
 refusal_alike (refusal.Unexpected at) a b long other has = fault_alike (fault.Unexpected at) a b long other has
 refusal_alike (refusal.TooLong at) a b long other has = fault_alike (fault.TooLong at) a b long other has
-refusal_alike refusal.Unbuilt a b long other has = absurd (tree_or_fault_only a has.0 (fault.TooLong max_length) has.1 (long_refused a long))
+refusal_alike (refusal.Broken rule at) a b long other has = absurd (tree_or_fault_only a has.0 (fault.TooLong max_length) has.1 (long_refused a long))
 
 -- what is told of a file's front holds of the file
 file_holds : (n : ℕ) (files : Option Files) (name text : List ℕ) (P : List ℕ → Type 0) → ((a b : List ℕ) → n < length a → n < length b → P a → P b) → P text → IfSome files (λ all. IsSomeAnd (file_named name all) (λ content. text ≡ take (n + 1) content)) → FileHolds files name P
@@ -135,16 +123,19 @@ with_schema end.Usage words files before left taken now wanted schema c whole = 
     no_usage : (wanted : Command) → SchemaComes wanted end.Usage schema before left taken now → ⊥
     no_usage command.Run c = c
     no_usage command.Validate c = c
+    no_usage command.Layout c = c
 with_schema (end.Refused why) words files before left taken now wanted schema c whole = absurd (no_refusal wanted c)
   where
     no_refusal : (wanted : Command) → SchemaComes wanted (end.Refused why) schema before left taken now → ⊥
     no_refusal command.Run c = c
     no_refusal command.Validate c = c
+    no_refusal command.Layout c = c
 with_schema end.FetchFault words files before left taken now wanted schema c whole = absurd (no_fetch wanted c)
   where
     no_fetch : (wanted : Command) → SchemaComes wanted end.FetchFault schema before left taken now → ⊥
     no_fetch command.Run c = c
     no_fetch command.Validate c = c
+    no_fetch command.Layout c = c
 with_schema end.ReadFault words files before left taken now wanted schema c whole = whole
 with_schema end.WriteFault words files before left taken now wanted schema c whole = whole
 with_schema end.Memory words files before left taken now wanted schema c whole = (whole.0, whole.2.0, whole.2.1, inr whole)
@@ -287,6 +278,32 @@ pub said_ok : (status : ℕ) (e : End) (words : List (List ℕ)) (files : Option
 said_ok status e words files before left taken mid now rose is comes prints asks none =
     let d = did command.Validate status e words files before left taken mid now rose is comes prints asks none in
     (d.schema, d.names, d.comes.0, appended taken mid now _ d.comes.1 d.last)
+
+pub said_layout : (status : ℕ) (e : End) (words : List (List ℕ)) (files : Option Files) (before left taken mid now : Option (List ℕ)) (rose : Type 0) → status ≡ status_of e → Comes e words files before left taken mid → Prints (line_of e) rose mid now → Asks command.Layout words → status ≡ 0 → SaysLayout words files before left taken now
+said_layout status e words files before left taken mid now rose is comes prints asks none =
+    let d = did command.Layout status e words files before left taken mid now rose is comes prints asks none in
+    (d.schema, d.names, d.comes.0, appended taken mid now _ d.comes.1 d.last)
+
+-- a text that came out is the layout, where it is its text
+pub layout_comes : (schema : Schema) (text : List ℕ) (e : End) (before left taken now : Option (List ℕ)) → text ≡ laid_out schema → TextComes text e before left taken now → LayoutComes schema e before left taken now
+layout_comes schema text end.Done before left taken now is comes = (comes.0, subst (Appends taken now) is comes.1)
+layout_comes schema text end.Usage before left taken now is comes = comes
+layout_comes schema text (end.Refused why) before left taken now is comes = comes
+layout_comes schema text end.FetchFault before left taken now is comes = comes
+layout_comes schema text end.ReadFault before left taken now is comes = comes
+layout_comes schema text end.WriteFault before left taken now is comes = (comes.0, subst (AppendsPart taken now) is comes.1)
+layout_comes schema text end.Memory before left taken now is comes = absurd comes
+layout_comes schema text end.LongInput before left taken now is comes = comes
+
+abbrev is_run : Command → Bool
+is_run command.Run = true
+is_run command.Validate = false
+is_run command.Layout = false
+
+-- the words of a command that reads the schema alone are not those of a run
+pub not_run : (words : List (List ℕ)) (asked : Command) (name : List ℕ) → command_of words ≡ Some (asked, name) → ReadsAlone words → asked ≡ command.Run → ⊥
+not_run words asked name is (inl asks) same = true≢false (ap is_run (sym same ∙ asked_once words asked command.Validate name is asks))
+not_run words asked name is (inr asks) same = true≢false (ap is_run (sym same ∙ asked_once words asked command.Layout name is asks))
 
 -- the end that was printed is how the command ended, or want of memory
 pub printed_end : (printed e : End) (words : List (List ℕ)) (files : Option Files) (before left taken now : Option (List ℕ)) → (printed ≡ e) ⊎ ((why : Refusal) × (e ≡ end.Refused why) × (printed ≡ end.Memory)) → Comes e words files before left taken now → Comes printed words files before left taken now

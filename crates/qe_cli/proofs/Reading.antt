@@ -2,7 +2,7 @@
 use Rattle.std.proofs.Common.{◌≡◌, ℕ, zero, suc, ◌+◌, ◌<◌, ◌≤◌, List, [], ◌∷◌, ◌++◌, Bool, true, false, refl, sym, ap, ◌∙◌, subst, append_assoc, append-nil, Option, Some, None, length, take, drop, arith, length-append}
 use Rattle.std.specs.Prelude.{IfSome, IsSomeAnd, OnOk, Result, Ok, Err, ◌↔◌}
 use Rattle.std.proofs.lemmas.List.{take-append-drop}
-use Rattle.qe_base.specs.declared.schema.Schema.{Schema}
+use Rattle.qe_schema.specs.Schemas.{Schema}
 use Rattle.qe_tables.specs.Tables.{Tables}
 use Rattle.qe_exchange.specs.Lines.{is_blank, lines_of}
 use Rattle.qe_cli.specs.declared.Stop.{Stop}

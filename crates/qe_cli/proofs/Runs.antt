@@ -1,6 +1,6 @@
 -- Lines cut from a stream, and what comes of them one after another.
 use Rattle.std.proofs.Common.{◌≡◌, ℕ, List, [], ◌∷◌, ◌++◌, Bool, true, false, cond, not, ◌||◌, if◌then◌else◌, filter, refl, sym, ap, ◌∙◌, subst, append_assoc, append-nil, true≢false}
-use Rattle.qe_base.specs.declared.schema.Schema.{Schema}
+use Rattle.qe_schema.specs.Schemas.{Schema}
 use Rattle.qe_tables.specs.Tables.{Tables}
 use Rattle.qe_exchange.specs.Exchange.{Outcome, ComeOf, outcome_text, bytes_of}
 use Rattle.qe_exchange.specs.Lines.{cut, ahead, is_blank, lines_of}

@@ -1,11 +1,13 @@
 -- What a command does: how it ends, and what it has written.
 use Rattle.std.specs.Prelude.{◌≡◌, ◌⊎◌, ℕ, ◌<◌, ◌≤◌, List, [], ◌++◌, length, take, true, false, Option, Some, None, IfSome, IsSomeAnd, codes}
 use Rattle.qe_base.specs.Outside.{Files, file_named}
-use Rattle.qe_base.specs.declared.schema.Schema.{Schema}
+use Rattle.qe_schema.specs.Schemas.{Schema}
 use Rattle.qe_tables.specs.Tables.{Tables, no_rows}
 use Rattle.qe_exchange.specs.Exchange.{Exchanges}
 use Rattle.qe_exchange.specs.Lines.{lines_of}
 use Rattle.qe_history.specs.State.{State, opening}
+use Rattle.qe_view.specs.Layouts.{layout_of}
+use Rattle.qe_view.specs.LayoutText.{layout_text}
 use Rattle.qe_cli.specs.declared.End.{End}
 use Rattle.qe_cli.specs.declared.End.TheVariants as end
 use Rattle.qe_cli.specs.declared.LinesEnd.{LinesEnd}
@@ -79,21 +81,37 @@ RunComes end.WriteFault schema before left taken now = Halts true schema no_rows
 RunComes end.Memory schema before left taken now = Halts false schema no_rows before left taken now
 RunComes end.LongInput schema before left taken now = Halts false schema no_rows before left taken now × IfSome left (λ unread. IsSomeAnd before (λ input. longest_input < length input))
 
--- How `ok` came out: whole, or not where a write failed. Nothing was read.
-abbrev pub OkComes : End → Option (List ℕ) → Option (List ℕ) → Option (List ℕ) → Option (List ℕ) → Type 0
-OkComes end.Done before left taken now = (left ≡ before) × Appends taken now (codes "ok\n")
-OkComes end.Usage before left taken now = ⊥
-OkComes (end.Refused refusal) before left taken now = ⊥
-OkComes end.FetchFault before left taken now = ⊥
-OkComes end.ReadFault before left taken now = ⊥
-OkComes end.WriteFault before left taken now = (left ≡ before) × AppendsPart taken now (codes "ok\n")
-OkComes end.Memory before left taken now = ⊥
-OkComes end.LongInput before left taken now = ⊥
+-- How a text came out: whole, or not where a write failed. Nothing was read.
+abbrev pub TextComes : List ℕ → End → Option (List ℕ) → Option (List ℕ) → Option (List ℕ) → Option (List ℕ) → Type 0
+TextComes text end.Done before left taken now = (left ≡ before) × Appends taken now text
+TextComes text end.Usage before left taken now = ⊥
+TextComes text (end.Refused refusal) before left taken now = ⊥
+TextComes text end.FetchFault before left taken now = ⊥
+TextComes text end.ReadFault before left taken now = ⊥
+TextComes text end.WriteFault before left taken now = (left ≡ before) × AppendsPart taken now text
+TextComes text end.Memory before left taken now = ⊥
+TextComes text end.LongInput before left taken now = ⊥
+
+-- the layout of a schema, as text
+abbrev pub laid_out : Schema → List ℕ
+laid_out schema = layout_text (layout_of schema)
+
+-- how a layout came out, where memory was there for it
+abbrev pub LayoutComes : Schema → End → Option (List ℕ) → Option (List ℕ) → Option (List ℕ) → Option (List ℕ) → Type 0
+LayoutComes schema end.Done before left taken now = TextComes (laid_out schema) end.Done before left taken now
+LayoutComes schema end.Usage before left taken now = ⊥
+LayoutComes schema (end.Refused refusal) before left taken now = ⊥
+LayoutComes schema end.FetchFault before left taken now = ⊥
+LayoutComes schema end.ReadFault before left taken now = ⊥
+LayoutComes schema end.WriteFault before left taken now = TextComes (laid_out schema) end.WriteFault before left taken now
+LayoutComes schema end.Memory before left taken now = Untouched before left taken now
+LayoutComes schema end.LongInput before left taken now = ⊥
 
 -- how a command came to its end over its schema
 abbrev pub SchemaComes : Command → End → Schema → Option (List ℕ) → Option (List ℕ) → Option (List ℕ) → Option (List ℕ) → Type 0
 SchemaComes command.Run e schema before left taken now = RunComes e schema before left taken now
-SchemaComes command.Validate e schema before left taken now = OkComes e before left taken now
+SchemaComes command.Validate e schema before left taken now = TextComes (codes "ok\n") e before left taken now
+SchemaComes command.Layout e schema before left taken now = LayoutComes schema e before left taken now
 
 -- how the command of the words came to its end over the schema that they name
 abbrev pub WithSchema : End → List (List ℕ) → Option Files → Option (List ℕ) → Option (List ℕ) → Option (List ℕ) → Option (List ℕ) → Type 0
@@ -129,6 +147,10 @@ AnswersAll words files before left taken now =
 -- The file that the words name holds a schema, `ok` was written, and nothing was read.
 abbrev pub SaysOk : List (List ℕ) → Option Files → Option (List ℕ) → Option (List ℕ) → Option (List ℕ) → Option (List ℕ) → Type 0
 SaysOk words files before left taken now = (schema : Schema) × NamesSchema command.Validate words files schema × (left ≡ before) × Appends taken now (codes "ok\n")
+
+-- The file that the words name holds a schema, its layout was written, and nothing was read.
+abbrev pub SaysLayout : List (List ℕ) → Option Files → Option (List ℕ) → Option (List ℕ) → Option (List ℕ) → Option (List ℕ) → Type 0
+SaysLayout words files before left taken now = (schema : Schema) × NamesSchema command.Layout words files schema × (left ≡ before) × Appends taken now (laid_out schema)
 
 -- The file that the words name holds a text that is refused, and the line printed says why.
 abbrev pub SaysWhy : List (List ℕ) → Option Files → Type 0 → Option (List ℕ) → Option (List ℕ) → Option (List ℕ) → Option (List ℕ) → Type 0

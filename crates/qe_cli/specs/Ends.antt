@@ -1,6 +1,6 @@
 -- Where taking lines ends.
 use Rattle.std.specs.Prelude.{◌≡◌, ℕ, ◌<◌, ◌≤◌, List, [], ◌∷◌, ◌++◌, length, take, Bool, true, false, Option, IfSome, IsSomeAnd, Result, Ok, Err}
-use Rattle.qe_base.specs.declared.schema.Schema.{Schema}
+use Rattle.qe_schema.specs.Schemas.{Schema}
 use Rattle.qe_tables.specs.Tables.{Tables}
 use Rattle.qe_exchange.specs.Lines.{lines_of}
 use Rattle.qe_cli.specs.declared.LinesEnd.{LinesEnd}

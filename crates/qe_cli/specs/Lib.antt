@@ -1,5 +1,6 @@
 pub mod Asked
 pub mod Command
+pub mod Ids
 pub mod Ends
 pub mod Kept
 pub mod Refused

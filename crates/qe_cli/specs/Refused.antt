@@ -1,29 +1,30 @@
 -- The schema of a text, and why a text is refused.
-use Rattle.std.specs.Prelude.{◌≡◌, ℕ, List, ◌++◌, Some, None, codes, decimal}
-use Rattle.qe_base.specs.declared.schema.Schema.{Schema}
+use Rattle.std.specs.Prelude.{◌≡◌, ℕ, List, ◌++◌, Some, codes, decimal}
+use Rattle.qe_schema.specs.Schemas.{Schema}
 use Rattle.psl_text.specs.declared.fault.TextFault.{TextFault}
 use Rattle.psl_text.specs.declared.fault.TextFault.TheVariants as fault
 use Rattle.psl_text.specs.declared.tree.Tree.{Tree}
 use Rattle.psl_text.specs.Derives.{HasTree}
 use Rattle.psl_text.specs.Faults.{HasFault}
-use Rattle.psl_schema.specs.Plain.{plain_of}
+use Rattle.psl_rules.specs.Accepted.{first_breach, IsAccepted}
+use Rattle.qe_schema.specs.SchemaOf.{schema_of}
 use Rattle.qe_cli.specs.declared.End.{End}
 use Rattle.qe_cli.specs.declared.End.TheVariants as end
 use Rattle.qe_cli.specs.declared.refusal.Refusal.{Refusal}
 use Rattle.qe_cli.specs.declared.refusal.Refusal.TheVariants as refusal
 
--- the text has a tree, and the tree these tables
+-- the text has a tree that is accepted, and the schema is its value
 abbrev pub HasSchema : List ℕ → Schema → Type 0
-HasSchema text schema = (tree : Tree) × HasTree text tree × (plain_of tree ≡ Some schema.tables)
+HasSchema text schema = (tree : Tree) × HasTree text tree × IsAccepted tree × (schema ≡ schema_of tree)
 
--- the text has this fault, or a tree that isn't of the form
+-- the text has this fault, or a tree that first breaks this rule there
 abbrev pub Refuses : Refusal → List ℕ → Type 0
 Refuses (refusal.NotUtf8 at) text = HasFault text (fault.NotUtf8 at)
 Refuses (refusal.BadCharacter at) text = HasFault text (fault.BadCharacter at)
 Refuses (refusal.Unclosed at) text = HasFault text (fault.Unclosed at)
 Refuses (refusal.Unexpected at) text = HasFault text (fault.Unexpected at)
 Refuses (refusal.TooLong at) text = HasFault text (fault.TooLong at)
-Refuses refusal.Unbuilt text = (tree : Tree) × HasTree text tree × (plain_of tree ≡ None)
+Refuses (refusal.Broken rule at) text = (tree : Tree) × HasTree text tree × (first_breach tree ≡ Some (record { rule = rule; at = at }))
 
 -- how a command ends over a text that has this fault
 abbrev pub end_at : TextFault → End
@@ -49,6 +50,10 @@ Unread end.LongInput text = ⊥
 abbrev pub line_at : List ℕ → ℕ → List ℕ
 line_at kind at = codes "P1012 " ++ (kind ++ (codes " at " ++ (decimal at ++ codes "\n")))
 
+-- the line of a broken rule, at a place
+abbrev pub broken_line : ℕ → ℕ → List ℕ
+broken_line rule at = codes "P1012 V" ++ (decimal rule ++ (codes " at " ++ (decimal at ++ codes "\n")))
+
 -- the line that says why a text is refused
 abbrev pub refusal_line : Refusal → List ℕ
 refusal_line (refusal.NotUtf8 at) = line_at (codes "T1") at
@@ -56,4 +61,4 @@ refusal_line (refusal.BadCharacter at) = line_at (codes "T2") at
 refusal_line (refusal.Unclosed at) = line_at (codes "T3") at
 refusal_line (refusal.Unexpected at) = line_at (codes "T4") at
 refusal_line (refusal.TooLong at) = line_at (codes "T5") at
-refusal_line refusal.Unbuilt = codes "P1012 unbuilt\n"
+refusal_line (refusal.Broken rule at) = broken_line rule at

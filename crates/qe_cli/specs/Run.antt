@@ -1,11 +1,16 @@
 -- What comes of lines, one after another.
 use Rattle.std.specs.Prelude.{◌≡◌, ℕ, List, [], ◌∷◌, ◌++◌, Bool, true, false, ◌==◌, Option}
 use Rattle.std.specs.List.{list_any}
-use Rattle.qe_base.specs.declared.schema.Schema.{Schema}
+use Rattle.qe_schema.specs.Schemas.{Schema}
 use Rattle.qe_tables.specs.Tables.{Tables}
+use Rattle.qe_base.specs.declared.write.Op.{Op}
+use Rattle.qe_history.specs.declared.Reply.{Reply}
 use Rattle.qe_history.specs.declared.What.TheVariants as what
 use Rattle.qe_history.specs.State.{opening, Steps}
 use Rattle.qe_forms.specs.Request.{asked_of}
+use Rattle.qe_forms.specs.Reply.{text_of, not_json_text, unbuilt_text, memory_text}
+use Rattle.qe_request.specs.declared.lines.LineFault.{LineFault}
+use Rattle.qe_request.specs.declared.lines.LineFault.TheVariants as fault
 use Rattle.qe_exchange.specs.Exchange.{Outcome, told, entered, ComesOf, ComeOf, entry_of, outcome_text, bytes_of}
 use Rattle.qe_cli.specs.Kept.{Appends, AppendsPart}
 
@@ -14,12 +19,24 @@ abbrev pub OutcomeLeads : Schema → Tables → Outcome → Tables → Type 0
 OutcomeLeads schema before (told text) after = after ≡ before
 OutcomeLeads schema before (entered op reply) after = (place : ℕ) → Steps (opening schema before) place (entry_of (what.Single op) reply).event reply (opening schema after)
 
+-- the text of a line that has no operation
+abbrev pub fault_text : LineFault → List ℕ
+fault_text fault.NotJson = not_json_text
+fault_text fault.Unbuilt = unbuilt_text
+fault_text fault.Memory = memory_text
+
 -- These bytes are the text of what comes of the line, and a newline.
 pub record Answers (schema : Schema) (line : List ℕ) (before : Tables) (bytes : List ℕ) (after : Tables) : Type 0 where
   pub outcome : Outcome
   pub comes : ComesOf (asked_of schema line) outcome
   pub written : bytes ≡ outcome_text schema outcome ++ 10 ∷ []
   pub leads : OutcomeLeads schema before outcome after
+
+-- These bytes are the text of a reply to the operation, and a newline.
+pub record Replies (schema : Schema) (op : Op) (before : Tables) (bytes : List ℕ) (after : Tables) : Type 0 where
+  pub reply : Reply
+  pub written : bytes ≡ text_of schema reply ++ 10 ∷ []
+  pub steps : OutcomeLeads schema before (entered op reply) after
 
 -- outcomes lead from these tables to those, one after another
 abbrev pub OutcomesLead : Schema → Tables → List Outcome → Tables → Type 0

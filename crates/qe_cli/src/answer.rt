@@ -6,13 +6,14 @@ ghost use Rattle.qe_plain.specs.Fits.{op_fits};
 ghost use Rattle.qe_ops.specs.Performs.{tables_of, IsKeptFor};
 ghost use Rattle.qe_forms.specs.Reply.{text_of};
 ghost use Rattle.qe_exchange.specs.Exchange.{entry_of};
-ghost use Rattle.qe_cli.specs.Run.{Answers};
+ghost use Rattle.qe_cli.specs.Run.{Answers, Replies, fault_text};
 
-use qe_base::{Memory, Op, OpFault, Schema};
+use qe_base::{Memory, Op, OpFault};
 use qe_mem::MemConnector;
 use qe_ops::run_op;
 use qe_reply::{Reply, memory_text, not_json_text, unbuilt_text, write_reply};
 use qe_request::{LineFault, read_line};
+use qe_schema::Schema;
 use std::alloc::Global;
 
 /// Runs an operation, and gives its reply.
@@ -29,6 +30,8 @@ fn reply_to(alloc: Global, schema: &Schema, op: &Op, tables: &mut MemConnector) 
             index: None,
             fault: OpFault::Rule(rule),
         },
+        Err(OpFault::Connector { .. }) => unreachable!(),
+        Err(OpFault::Misfit { .. }) => unreachable!(),
     }
 }
 
@@ -50,6 +53,52 @@ fn put_reply(alloc: Global, schema: &Schema, reply: &Reply, out: &mut Vec<u8>) -
     put_line(out, text.as_str().as_bytes())
 }
 
+/// Runs an operation, and puts its reply's text and a newline into `out`.
+fn put_reply_to(
+    alloc: Global,
+    schema: &Schema,
+    op: &Op,
+    tables: &mut MemConnector,
+    out: &mut Vec<u8>,
+) -> Result<(), Memory>
+    requires fits { op_fits schema.now op.now ≡ true }
+    requires kept { IsKeptFor schema.now tables.old }
+    ensures ok { OnOk result (Replies schema.now op.now (tables_of tables.old) out.new.items (tables_of tables.new)) }
+    ensures kept { IsKeptFor schema.now tables.new }
+{
+    let reply = reply_to(alloc, schema, op, tables);
+    put_reply(alloc, schema, &reply, out)
+}
+
+/// The same, and lets go of the operation.
+fn answer_op(
+    alloc: Global,
+    schema: &Schema,
+    op: Op,
+    tables: &mut MemConnector,
+    out: &mut Vec<u8>,
+) -> Result<(), Memory>
+    requires fits { op_fits schema.now op ≡ true }
+    requires kept { IsKeptFor schema.now tables.old }
+    ensures ok { OnOk result (Replies schema.now op (tables_of tables.old) out.new.items (tables_of tables.new)) }
+    ensures kept { IsKeptFor schema.now tables.new }
+{
+    let done = put_reply_to(alloc, schema, &op, tables, out);
+    drop(op);
+    done
+}
+
+/// The text for a line that has no operation.
+fn fault_text(fault: LineFault) -> &'static [u8]
+    ensures { result.now ≡ fault_text fault }
+{
+    match fault {
+        LineFault::NotJson => not_json_text(),
+        LineFault::Unbuilt => unbuilt_text(),
+        LineFault::Memory => memory_text(),
+    }
+}
+
 /// Puts the text of what comes of a line, and a newline, into `out`.
 pub fn answer(
     alloc: Global,
@@ -63,12 +112,7 @@ pub fn answer(
     ensures kept { IsKeptFor schema.now tables.new }
 {
     match read_line(alloc, schema, line) {
-        Ok(op) => {
-            let reply = reply_to(alloc, schema, &op, tables);
-            put_reply(alloc, schema, &reply, out)
-        }
-        Err(LineFault::NotJson) => put_line(out, not_json_text()),
-        Err(LineFault::Unbuilt) => put_line(out, unbuilt_text()),
-        Err(LineFault::Memory) => put_line(out, memory_text()),
+        Ok(op) => answer_op(alloc, schema, op, tables, out),
+        Err(fault) => put_line(out, fault_text(fault)),
     }
 }

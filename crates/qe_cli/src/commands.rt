@@ -1,24 +1,26 @@
 //! The commands of the engine.
 ghost use Rattle.std.specs.Prelude.{◌≡◌, ◌↔◌, ◌⊎◌, ◌<◌, ◌≤◌, ℕ, List, ◌∷◌, [], length, map, string_bytes, Option, Some, None, IfSome, IsSomeAnd, IfOk, IfErr, true, false};
 ghost use Rattle.qe_base.specs.Causes.{HasCause, Rose};
-ghost use Rattle.qe_base.specs.declared.schema.Schema.{Schema};
+ghost use Rattle.qe_schema.specs.Schemas.{Schema};
 ghost use Rattle.qe_cli.specs.declared.End.{End};
 ghost use Rattle.qe_cli.specs.declared.refusal.Refusal.{Refusal};
 ghost use Rattle.qe_cli.specs.declared.words.Command.{Command};
-ghost use Rattle.qe_tables.specs.Tables.{table_at, id_columns};
-ghost use Rattle.qe_cli.specs.Asked.{command_of, Asks};
-ghost use Rattle.qe_cli.specs.Command.{line_of, status_of, end_from, RunComes, OkComes, SchemaComes, Comes, Prints, HasSchemaFile, Offers, AnswersAll, SaysOk, SaysWhy};
+ghost use Rattle.qe_cli.specs.Asked.{command_of, Asks, ReadsAlone};
+ghost use Rattle.qe_cli.specs.Command.{line_of, status_of, end_from, RunComes, TextComes, LayoutComes, laid_out, SchemaComes, Comes, Prints, HasSchemaFile, Offers, AnswersAll, SaysOk, SaysLayout, SaysWhy};
 ghost use Rattle.qe_cli.specs.Ends.{longest_input};
 ghost use Rattle.qe_cli.specs.Refused.{HasSchema, Refuses, Unread};
 
+use crate::empty::empty_tables;
 use crate::host::write_all;
 use crate::input::take_input;
 use crate::words::{Command, command_of};
 use crate::{End, LinesEnd, Refusal};
-use psl_schema::{PlainFault, check};
+use psl_schema::{SchemaFault, check};
 use psl_text::{TextFault, read_tree};
-use qe_base::{FetchFault, Host, Schema, TableId};
-use qe_mem::MemConnector;
+use qe_base::{FetchFault, Host};
+use qe_schema::Schema;
+use qe_text::{Memory, Text};
+use qe_view::Layout;
 use std::alloc::Global;
 
 /// How many bytes a schema's text may have.
@@ -102,25 +104,9 @@ fn read_schema(alloc: Global, text: &[u8]) -> Result<Schema, End>
     };
     match check(alloc, &tree) {
         Ok(schema) => Ok(schema),
-        Err(PlainFault::Unbuilt) => Err(End::Refused(Refusal::Unbuilt)),
-        Err(PlainFault::Memory) => Err(End::Memory),
+        Err(SchemaFault::Broken { rule, at }) => { Err(End::Refused(Refusal::Broken { rule, at })) }
+        Err(SchemaFault::Memory) => Err(End::Memory),
     }
-}
-
-/// The column of the id of an accepted schema's model.
-fn id_column(schema: &Schema) -> u16
-    ensures { id_columns (table_at schema.now 0) ≡ result ∷ [] }
-{
-    let Some(model) = schema.table(TableId(0)) else {
-        unreachable!()
-    };
-    let Some(key) = sqlite_items::at(model.keys.as_slice(), 0) else {
-        unreachable!()
-    };
-    let Some(column) = sqlite_items::at(key.columns.as_slice(), 0) else {
-        unreachable!()
-    };
-    *column
 }
 
 /// Answers the lines of the input over a schema, from empty tables.
@@ -132,16 +118,16 @@ fn run_schema<H: Host>(alloc: Global, schema: &Schema, host: &mut H) -> End
     ensures fetch { (H.fetch_faults host.new ≡ H.fetch_faults host.old) × (result ≡ End.FetchFault → ⊥) }
     ensures others { (H.files host.new ≡ H.files host.old) × (H.is_steady host.new ≡ H.is_steady host.old) }
 {
-    let Ok(mut tables) = MemConnector::new(alloc, id_column(schema)) else {
+    let Ok(mut tables) = empty_tables(alloc, schema) else {
         return End::Memory;
     };
     let lines = take_input(alloc, schema, &mut tables, host);
     End::from(lines)
 }
 
-/// Says `ok`.
-fn say_ok<H: Host>(host: &mut H) -> End
-    ensures ends { OkComes result (H.left host.old) (H.left host.new) (H.taken host.old) (H.taken host.new) }
+/// Writes a text.
+fn say<H: Host>(host: &mut H, text: &[u8]) -> End
+    ensures ends { TextComes text.now result (H.left host.old) (H.left host.new) (H.taken host.old) (H.taken host.new) }
     ensures still { (H.left host.new ≡ H.left host.old) × (H.read_faults host.new ≡ H.read_faults host.old) }
     ensures read_cause { HasCause (H.read_may_fail host.old) (H.read_faults host.old) (H.read_faults host.new) (result ≡ End.ReadFault) }
     ensures write_cause { HasCause (H.write_may_fail host.old) (H.write_faults host.old) (H.write_faults host.new) (result ≡ End.WriteFault) }
@@ -149,16 +135,40 @@ fn say_ok<H: Host>(host: &mut H) -> End
     ensures fetch { (H.fetch_faults host.new ≡ H.fetch_faults host.old) × (result ≡ End.FetchFault → ⊥) }
     ensures others { (H.files host.new ≡ H.files host.old) × (H.is_steady host.new ≡ H.is_steady host.old) }
 {
-    match write_all(host, b"ok\n") {
+    match write_all(host, text) {
         Ok(()) => End::Done,
         Err(_) => End::WriteFault,
     }
 }
 
+/// The text of a schema's layout.
+fn layout(alloc: Global, schema: &Schema) -> Result<Text, Memory>
+    ensures { IfOk result (λ text. text ≡ laid_out schema.now) }
+{
+    let layout = Layout::of(alloc, schema)?;
+    layout.ddl(alloc)
+}
+
+/// Writes the layout of a schema.
+fn say_layout<H: Host>(alloc: Global, schema: &Schema, host: &mut H) -> End
+    ensures ends { LayoutComes schema.now result (H.left host.old) (H.left host.new) (H.taken host.old) (H.taken host.new) }
+    ensures still { (H.left host.new ≡ H.left host.old) × (H.read_faults host.new ≡ H.read_faults host.old) }
+    ensures read_cause { HasCause (H.read_may_fail host.old) (H.read_faults host.old) (H.read_faults host.new) (result ≡ End.ReadFault) }
+    ensures write_cause { HasCause (H.write_may_fail host.old) (H.write_faults host.old) (H.write_faults host.new) (result ≡ End.WriteFault) }
+    ensures sure { (H.read_may_fail host.old ≡ false → H.read_may_fail host.new ≡ false) × (H.write_may_fail host.old ≡ false → H.write_may_fail host.new ≡ false) }
+    ensures fetch { (H.fetch_faults host.new ≡ H.fetch_faults host.old) × (result ≡ End.FetchFault → ⊥) }
+    ensures others { (H.files host.new ≡ H.files host.old) × (H.is_steady host.new ≡ H.is_steady host.old) }
+{
+    let Ok(text) = layout(alloc, schema) else {
+        return End::Memory;
+    };
+    say(host, text.as_str().as_bytes())
+}
+
 /// Carries out a command over its schema.
 fn obey<H: Host>(alloc: Global, command: Command, schema: &Schema, host: &mut H) -> End
     ensures ends { SchemaComes command result schema.now (H.left host.old) (H.left host.new) (H.taken host.old) (H.taken host.new) }
-    ensures still { command ≡ Command.Validate → (H.left host.new ≡ H.left host.old) × (H.read_faults host.new ≡ H.read_faults host.old) }
+    ensures still { (command ≡ Command.Run → ⊥) → (H.left host.new ≡ H.left host.old) × (H.read_faults host.new ≡ H.read_faults host.old) }
     ensures read_cause { HasCause (H.read_may_fail host.old) (H.read_faults host.old) (H.read_faults host.new) (result ≡ End.ReadFault) }
     ensures write_cause { HasCause (H.write_may_fail host.old) (H.write_faults host.old) (H.write_faults host.new) (result ≡ End.WriteFault) }
     ensures sure { (H.read_may_fail host.old ≡ false → H.read_may_fail host.new ≡ false) × (H.write_may_fail host.old ≡ false → H.write_may_fail host.new ≡ false) }
@@ -167,14 +177,15 @@ fn obey<H: Host>(alloc: Global, command: Command, schema: &Schema, host: &mut H)
 {
     match command {
         Command::Run => run_schema(alloc, schema, host),
-        Command::Validate => say_ok(host),
+        Command::Validate => say(host, b"ok\n"),
+        Command::Layout => say_layout(alloc, schema, host),
     }
 }
 
 /// Carries out the command of the words, all but the line of its own.
 fn carry_out<H: Host>(alloc: Global, words: &[String], host: &mut H) -> End
     ensures comes { Comes result (map string_bytes words.now) (H.files host.old) (H.left host.old) (H.left host.new) (H.taken host.old) (H.taken host.new) }
-    ensures still { Asks Command.Validate (map string_bytes words.now) → (H.left host.new ≡ H.left host.old) × (H.read_faults host.new ≡ H.read_faults host.old) }
+    ensures still { ReadsAlone (map string_bytes words.now) → (H.left host.new ≡ H.left host.old) × (H.read_faults host.new ≡ H.read_faults host.old) }
     ensures fetch_cause { HasCause true (H.fetch_faults host.old) (H.fetch_faults host.new) (result ≡ End.FetchFault) }
     ensures fetch_steady { H.is_steady host.old ≡ true → HasSchemaFile (map string_bytes words.now) (H.files host.old) → result ≡ End.FetchFault → ⊥ }
     ensures read_cause { HasCause (H.read_may_fail host.old) (H.read_faults host.old) (H.read_faults host.new) (result ≡ End.ReadFault) }
@@ -247,7 +258,8 @@ pub fn offline<H: Host>(alloc: Global, words: &[String], host: &mut H) -> u8
     ensures refused { result ≡ 3 → SaysWhy (map string_bytes words.now) (H.files host.old) (Rose (H.write_faults host.old) (H.write_faults host.new)) (H.left host.old) (H.left host.new) (H.taken host.old) (H.taken host.new) }
     ensures answered { Asks Command.Run (map string_bytes words.now) → result ≡ 0 → AnswersAll (map string_bytes words.now) (H.files host.old) (H.left host.old) (H.left host.new) (H.taken host.old) (H.taken host.new) }
     ensures validated { Asks Command.Validate (map string_bytes words.now) → result ≡ 0 → SaysOk (map string_bytes words.now) (H.files host.old) (H.left host.old) (H.left host.new) (H.taken host.old) (H.taken host.new) }
-    ensures still { Asks Command.Validate (map string_bytes words.now) → (H.left host.new ≡ H.left host.old) × (H.read_faults host.new ≡ H.read_faults host.old) }
+    ensures laid { Asks Command.Layout (map string_bytes words.now) → result ≡ 0 → SaysLayout (map string_bytes words.now) (H.files host.old) (H.left host.old) (H.left host.new) (H.taken host.old) (H.taken host.new) }
+    ensures still { ReadsAlone (map string_bytes words.now) → (H.left host.new ≡ H.left host.old) × (H.read_faults host.new ≡ H.read_faults host.old) }
     ensures limit { result ≡ 7 → IfSome (H.left host.new) (λ unread. IsSomeAnd (H.left host.old) (λ input. longest_input < length input)) }
 
     // A fault has its cause, and over a steady host that has the file there is none.
@@ -270,7 +282,8 @@ pub fn command<H: Host>(alloc: Global, words: &[String], host: &mut H) -> u8
     ensures refused { result ≡ 3 → SaysWhy (map string_bytes words.now) (H.files host.old) (Rose (H.write_faults host.old) (H.write_faults host.new)) (H.left host.old) (H.left host.new) (H.taken host.old) (H.taken host.new) }
     ensures answered { Asks Command.Run (map string_bytes words.now) → result ≡ 0 → AnswersAll (map string_bytes words.now) (H.files host.old) (H.left host.old) (H.left host.new) (H.taken host.old) (H.taken host.new) }
     ensures validated { Asks Command.Validate (map string_bytes words.now) → result ≡ 0 → SaysOk (map string_bytes words.now) (H.files host.old) (H.left host.old) (H.left host.new) (H.taken host.old) (H.taken host.new) }
-    ensures still { Asks Command.Validate (map string_bytes words.now) → (H.left host.new ≡ H.left host.old) × (H.read_faults host.new ≡ H.read_faults host.old) }
+    ensures laid { Asks Command.Layout (map string_bytes words.now) → result ≡ 0 → SaysLayout (map string_bytes words.now) (H.files host.old) (H.left host.old) (H.left host.new) (H.taken host.old) (H.taken host.new) }
+    ensures still { ReadsAlone (map string_bytes words.now) → (H.left host.new ≡ H.left host.old) × (H.read_faults host.new ≡ H.read_faults host.old) }
     ensures limit { result ≡ 7 → IfSome (H.left host.new) (λ unread. IsSomeAnd (H.left host.old) (λ input. longest_input < length input)) }
     ensures fault { result ≡ 4 → Rose (H.fetch_faults host.old) (H.fetch_faults host.new) ⊎ (Rose (H.read_faults host.old) (H.read_faults host.new) ⊎ Rose (H.write_faults host.old) (H.write_faults host.new)) }
     ensures steady { H.is_steady host.old ≡ true → HasSchemaFile (map string_bytes words.now) (H.files host.old) → result ≡ 4 → ⊥ }

@@ -7,8 +7,9 @@ ghost use Rattle.qe_cli.specs.Ends.{EndsRun, end_by, end_behind};
 use crate::host::read;
 use crate::take::{take_line, take_lines};
 use crate::{LinesEnd, Stop};
-use qe_base::{Failed, Host, Memory, Schema};
+use qe_base::{Failed, Host, Memory};
 use qe_mem::MemConnector;
+use qe_schema::Schema;
 use std::alloc::Global;
 
 /// How many bytes an input may have.

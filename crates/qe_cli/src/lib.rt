@@ -3,6 +3,7 @@
 
 mod answer;
 mod commands;
+mod empty;
 mod host;
 mod input;
 mod real;

@@ -1,11 +1,11 @@
 //! Why the text of a schema is refused.
 ghost use Rattle.std.specs.Prelude.{◌≡◌, string_bytes, IfOk};
-ghost use Rattle.qe_cli.specs.Refused.{line_at, refusal_line};
+ghost use Rattle.qe_cli.specs.Refused.{line_at, broken_line, refusal_line};
 
 use std::alloc::{AllocError, Global};
 
-/// Why the text of a schema is refused: its fault, with the place in bytes from the front, or the
-/// form of its tree.
+/// Why the text of a schema is refused: its fault or the rule that it breaks, with the place in bytes
+/// from the front.
 #[derive(Clone, Copy, Debug, PartialEq, Eq)]
 pub enum Refusal {
     NotUtf8 { at: usize },
@@ -13,8 +13,8 @@ pub enum Refusal {
     Unclosed { at: usize },
     Unexpected { at: usize },
     TooLong { at: usize },
-    /// The tree isn't of the form that is read so far.
-    Unbuilt,
+    /// The rule of this number is broken.
+    Broken { rule: u8, at: usize },
 }
 
 /// The line of a fault of this kind, at a place.
@@ -22,6 +22,13 @@ fn line_at(alloc: Global, kind: &str, at: usize) -> Result<String, AllocError>
     ensures { IfOk result (λ line. string_bytes line ≡ line_at kind.now at) }
 {
     format!(in alloc; "P1012 {kind} at {at}\n")
+}
+
+/// The line of a broken rule, at a place.
+fn broken_line(alloc: Global, rule: u8, at: usize) -> Result<String, AllocError>
+    ensures { IfOk result (λ line. string_bytes line ≡ broken_line rule at) }
+{
+    format!(in alloc; "P1012 V{rule} at {at}\n")
 }
 
 impl Refusal {
@@ -35,7 +42,7 @@ impl Refusal {
             Refusal::Unclosed { at } => line_at(alloc, "T3", at),
             Refusal::Unexpected { at } => line_at(alloc, "T4", at),
             Refusal::TooLong { at } => line_at(alloc, "T5", at),
-            Refusal::Unbuilt => String::from_str(alloc, "P1012 unbuilt\n"),
+            Refusal::Broken { rule, at } => broken_line(alloc, rule, at),
         }
     }
 }

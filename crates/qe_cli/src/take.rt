@@ -11,8 +11,9 @@ use crate::Stop;
 use crate::answer::answer;
 use crate::host::write_all;
 use memchr::memchr;
-use qe_base::{Host, Schema};
+use qe_base::Host;
 use qe_mem::MemConnector;
+use qe_schema::Schema;
 use std::alloc::Global;
 
 /// Whether a line is spaces, tabs and carriage returns alone.

@@ -32,6 +32,99 @@ const NOT_JSON: &str = r#"{"error":{"cause":"json","code":"E3","meta":{}}}"#;
 
 const UNBUILT: &str = r#"{"error":{"cause":"unbuilt","code":"E9","meta":{}}}"#;
 
+/// Two simple models, the first with two keys, and a model that isn't simple.
+const PETS: &str =
+    "datasource d {\nprovider = \"sqlite\"\nrelationMode = \"prisma\"\n}\nmodel User {\nid Int @id\nname String @unique\n}\nmodel Pet {\nage Int\nid String @id\n}\nmodel Note {\nid Int @id\ntext String?\n}\n";
+
+/// A schema as users write it, and its layout.
+const BLOG: &str = r#"datasource db {
+  provider     = "sqlite"
+  url          = env("DATABASE_URL")
+  relationMode = "prisma"
+}
+generator client {
+  provider = "prisma-client-js"
+}
+enum Role {
+  USER
+  ADMIN
+}
+model User {
+  id      Int      @id @default(autoincrement())
+  email   String   @unique
+  name    String?
+  role    Role     @default(USER)
+  posts   Post[]
+  profile Profile?
+}
+model Profile {
+  id     Int    @id @default(autoincrement())
+  bio    String
+  user   User   @relation(fields: [userId], references: [id], onDelete: Cascade)
+  userId Int    @unique
+}
+model Post {
+  id         Int        @id @default(autoincrement())
+  createdAt  DateTime   @default(now())
+  title      String
+  published  Boolean    @default(false)
+  author     User?      @relation(fields: [authorId], references: [id])
+  authorId   Int?
+  categories Category[]
+
+  @@index([authorId])
+}
+model Category {
+  id    Int    @id @default(autoincrement())
+  name  String @unique
+  posts Post[]
+}
+"#;
+
+const BLOG_LAYOUT: &str =
+    r#"CREATE TABLE "User" ("id" INTEGER NOT NULL, "email" TEXT NOT NULL, "name" TEXT, "role" TEXT NOT NULL, PRIMARY KEY ("id"), UNIQUE ("email")) STRICT;
+CREATE TABLE "Profile" ("id" INTEGER NOT NULL, "bio" TEXT NOT NULL, "userId" INTEGER NOT NULL, PRIMARY KEY ("id"), UNIQUE ("userId")) STRICT;
+CREATE TABLE "Post" ("id" INTEGER NOT NULL, "createdAt" INTEGER NOT NULL, "title" TEXT NOT NULL, "published" INTEGER NOT NULL, "authorId" INTEGER, PRIMARY KEY ("id")) STRICT;
+CREATE TABLE "Category" ("id" INTEGER NOT NULL, "name" TEXT NOT NULL, PRIMARY KEY ("id"), UNIQUE ("name")) STRICT;
+CREATE TABLE "_CategoryToPost" ("A" INTEGER NOT NULL, "B" INTEGER NOT NULL, PRIMARY KEY ("A", "B")) STRICT;
+CREATE TABLE "_qe_counter" ("name" TEXT NOT NULL, "last" INTEGER NOT NULL, PRIMARY KEY ("name")) STRICT;
+CREATE INDEX "_qe_index_Post_1" ON "Post" ("authorId");
+"#;
+
+/// Mapped names, a compound id, indexes, and a model that is linked to itself.
+const SEATS: &str = r#"datasource d {
+provider = "sqlite"
+relationMode = "prisma"
+}
+model Person {
+id Int @id @map("person id")
+knows Person[] @relation("Friends")
+known Person[] @relation("Friends")
+@@map("people")
+}
+model Seat {
+row Int
+number Int
+taken Boolean?
+data Bytes?
+at DateTime @unique
+@@id([number, row])
+@@index([taken])
+@@index([row, taken])
+@@unique([row, data])
+@@map("seat map")
+}
+"#;
+
+const SEATS_LAYOUT: &str =
+    r#"CREATE TABLE "people" ("person id" INTEGER NOT NULL, PRIMARY KEY ("person id")) STRICT;
+CREATE TABLE "seat map" ("row" INTEGER NOT NULL, "number" INTEGER NOT NULL, "taken" INTEGER, "data" BLOB, "at" INTEGER NOT NULL, PRIMARY KEY ("number", "row"), UNIQUE ("at"), UNIQUE ("row", "data")) STRICT;
+CREATE TABLE "_Friends" ("A" INTEGER NOT NULL, "B" INTEGER NOT NULL, PRIMARY KEY ("A", "B")) STRICT;
+CREATE TABLE "_qe_counter" ("name" TEXT NOT NULL, "last" INTEGER NOT NULL, PRIMARY KEY ("name")) STRICT;
+CREATE INDEX "_qe_index_seat map_1" ON "seat map" ("taken");
+CREATE INDEX "_qe_index_seat map_2" ON "seat map" ("row", "taken");
+"#;
+
 /// The pieces, with an end behind each.
 fn joined(alloc: Global, pieces: &[&str], end: &str) -> Result<Text, Memory> {
     let mut text = String::new(alloc);
@@ -97,12 +190,22 @@ fn run(
     Ok((status, Bytes::from_slice(alloc, host.taken())?))
 }
 
-/// The status of `validate` over a text, and what it wrote. A read would fail.
-fn validate(alloc: Global, text: &[u8], failing_writes: &[u64]) -> Result<(u8, Bytes), Memory> {
+/// The status of a command that reads the schema alone, over a text, and what it wrote. A read would
+/// fail.
+fn read_alone(
+    alloc: Global,
+    words: &str,
+    text: &[u8],
+    failing_writes: &[u64],
+) -> Result<(u8, Bytes), Memory> {
     let mut host = host_over(alloc, text, &[FIND_1], &[1], failing_writes)?;
-    let words = split_words(alloc, "engine validate people")?;
+    let words = split_words(alloc, words)?;
     let status = command(alloc, words.as_slice(), &mut host);
     Ok((status, Bytes::from_slice(alloc, host.taken())?))
+}
+
+fn validate(alloc: Global, text: &[u8], failing_writes: &[u64]) -> Result<(u8, Bytes), Memory> {
+    read_alone(alloc, "engine validate people", text, failing_writes)
 }
 
 /// A host that gives and takes one byte at a time. It tells nothing.
@@ -221,7 +324,7 @@ fn ends_without_an_answer(rt: HostRuntime) -> Result<(), Fail> {
 fn validates_a_text(rt: HostRuntime) -> Result<(), Fail> {
     for (text, status, want) in [
         (PEOPLE.as_bytes(), 0, "ok\n"),
-        (b"", 3, "P1012 unbuilt\n"),
+        (b"", 3, "P1012 V1 at 0\n"),
         (&[255], 3, "P1012 T1 at 0\n"),
         (b"#", 3, "P1012 T2 at 0\n"),
         (b"model A {", 3, "P1012 T3 at 8\n"),
@@ -237,6 +340,78 @@ fn validates_a_text(rt: HostRuntime) -> Result<(), Fail> {
         assert_eq!(rt; written.as_slice(), want.as_bytes());
         assert_eq!(rt; got, status, "{want}");
     }
+    Ok(())
+}
+
+/// Two models with a relation: the type of its first field, a further argument of its second, and an
+/// attribute of the foreign key.
+fn pair(alloc: Global, field: &str, argument: &str, key: &str) -> Result<String, Memory> {
+    let text = format!(in alloc;
+        "datasource d {{\nprovider = \"sqlite\"\nrelationMode = \"prisma\"\n}}\nmodel A {{\nid Int @id\nb {field}\n}}\nmodel B {{\nid Int @id\na A @relation(fields: [aId], references: [id]{argument})\naId Int{key}\n}}\n"
+    )?;
+    Ok(text)
+}
+
+#[test]
+fn names_the_broken_rule(rt: HostRuntime) -> Result<(), Fail> {
+    let alloc = rt.alloc();
+    for (field, argument, key, want) in [
+        ("B?", "", " @unique", "ok\n"),
+        ("B?", "", "", "P1012 V22 at 110\n"),
+        (
+            "B?",
+            ", onDelete: SetNull",
+            " @unique",
+            "P1012 V23 at 110\n",
+        ),
+        ("Bee?", "", "", "P1012 V6 at 84\n"),
+    ] {
+        let text = pair(alloc, field, argument, key)?;
+        let (_, written) = validate(alloc, text.as_bytes(), &[])?;
+        assert_eq!(rt; written.as_slice(), want.as_bytes());
+    }
+    Ok(())
+}
+
+#[test]
+fn lays_out_a_schema(rt: HostRuntime) -> Result<(), Fail> {
+    for (text, want) in [(BLOG, BLOG_LAYOUT), (SEATS, SEATS_LAYOUT)] {
+        let (status, written) = read_alone(
+            rt.alloc(),
+            "engine layout people",
+            text.as_bytes(),
+            &[],
+        )?;
+        assert_eq!(rt; written.as_slice(), want.as_bytes());
+        assert_eq!(rt; status, 0);
+    }
+    Ok(())
+}
+
+#[test]
+fn keeps_each_model_apart(rt: HostRuntime) -> Result<(), Fail> {
+    let alloc = rt.alloc();
+    let input = [
+        CREATE,
+        "\n",
+        r#"{"modelName":"User","action":"create","query":{"arguments":{"data":{"id":2,"name":"Ada"}}}}"#,
+        "\n",
+        r#"{"modelName":"Pet","action":"create","query":{"arguments":{"data":{"id":"Ada","age":3}}}}"#,
+        "\n",
+        r#"{"modelName":"Note","action":"create","query":{"arguments":{"data":{"id":1,"text":"x"}}}}"#,
+        "\n",
+        r#"{"modelName":"Pet","action":"findUnique","query":{"arguments":{"where":{"id":"Ada"}}}}"#,
+        "\n",
+        FIND_2,
+    ];
+    let pet = r#"{"data":{"age":3,"id":"Ada"}}"#;
+    let held =
+        r#"{"error":{"cause":"unique","code":"P2002","meta":{"model":"User","target":["name"]}}}"#;
+    let want = joined(alloc, &[ADA, held, pet, UNBUILT, pet, NOBODY], "\n")?;
+    let mut host = host_over(alloc, PETS.as_bytes(), &input, &[], &[])?;
+    let words = split_words(alloc, "engine run people")?;
+    assert_eq!(rt; command(alloc, words.as_slice(), &mut host), 0);
+    assert_eq!(rt; host.taken(), want.as_str().as_bytes());
     Ok(())
 }
 

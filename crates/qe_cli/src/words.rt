@@ -9,6 +9,8 @@ pub enum Command {
     Run,
     /// The schema is only read.
     Validate,
+    /// The schema's layout is printed.
+    Layout,
 }
 
 /// Whether a word begins with a dash.
@@ -29,6 +31,8 @@ fn command_named(word: &str) -> Option<Command>
         Some(Command::Run)
     } else if word == "validate" {
         Some(Command::Validate)
+    } else if word == "layout" {
+        Some(Command::Layout)
     } else {
         None
     }

@@ -1,9 +1,8 @@
 -- What is written for the lines of one caller, and the history that they make.
-use Rattle.std.specs.Prelude.{◌≡◌, ◌⊎◌, ℕ, pos, List, [], ◌∷◌, ◌++◌, Option, None, flat_map}
+use Rattle.std.specs.Prelude.{◌≡◌, ◌⊎◌, ℕ, pos, List, [], ◌∷◌, ◌++◌, None, flat_map}
 use Rattle.qe_base.specs.declared.answer.Outside.{Outside}
 use Rattle.qe_base.specs.declared.write.Op.{Op}
-use Rattle.qe_base.specs.declared.schema.Schema.{Schema}
-use Rattle.qe_history.specs.declared.Event.{Event}
+use Rattle.qe_schema.specs.Schemas.{Schema}
 use Rattle.qe_history.specs.declared.What.{What}
 use Rattle.qe_history.specs.declared.What.TheVariants as what
 use Rattle.qe_history.specs.declared.Reply.{Reply}

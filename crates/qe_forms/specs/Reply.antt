@@ -9,7 +9,7 @@ use Rattle.qe_base.specs.declared.value.Value.TheVariants as value
 use Rattle.qe_base.specs.declared.schema.Column.{Column}
 use Rattle.qe_base.specs.declared.schema.Key.{Key}
 use Rattle.qe_base.specs.declared.schema.Table.{Table}
-use Rattle.qe_base.specs.declared.schema.Schema.{Schema}
+use Rattle.qe_schema.specs.Schemas.{Schema}
 use Rattle.qe_base.specs.declared.answer.Answer.{Answer, fold-Answer}
 use Rattle.qe_base.specs.declared.answer.Answer.TheOpen.{Answer-F}
 use Rattle.qe_base.specs.declared.answer.Answer.TheOpen as answer
@@ -17,14 +17,19 @@ use Rattle.qe_base.specs.declared.answer.Rule.{Rule}
 use Rattle.qe_base.specs.declared.answer.Rule.TheVariants as rule
 use Rattle.qe_base.specs.declared.answer.OpFault.{OpFault}
 use Rattle.qe_base.specs.declared.answer.OpFault.TheVariants as fault
-use Rattle.qe_tables.specs.Tables.{table_at, first_columns}
+use Rattle.qe_tables.specs.Tables.{table_at}
 use Rattle.qe_history.specs.declared.Reply.{Reply}
 use Rattle.qe_history.specs.declared.Reply.TheVariants as reply
 
+-- no answer has a value of the other kinds yet, and null stands for it
 abbrev pub scalar_data : Value → Data
 scalar_data value.Null = null
 scalar_data (value.Text text) = string text
+scalar_data (value.Bool truth) = null
 scalar_data (value.Int integer) = number (of_integer integer)
+scalar_data (value.Moment moment) = null
+scalar_data (value.Blob bytes) = null
+scalar_data (value.Member chosen) = null
 
 -- the members, each put at its place
 abbrev pub put_all : List (List ℕ × Data) → Members → Members
@@ -71,17 +76,37 @@ abbrev pub columns_of_key : Option Key → List ℕ
 columns_of_key None = []
 columns_of_key (Some key) = key.columns
 
+-- no operation breaks the other rules yet, and null stands for their error
 abbrev pub rule_data : Schema → Option ℕ → Rule → Data
 rule_data schema index (rule.Unique table key) =
     indexed_data index (codes "unique") (codes "P2002")
     (member (codes "model") (string (table_at schema table.0).name) (member (codes "target") (names_data (table_at schema table.0) (columns_of_key (slice_get (table_at schema table.0).keys key))) no_members))
+rule_data schema index (rule.Required relation) = null
+rule_data schema index (rule.Unconnected table field) = null
+rule_data schema index (rule.Range table column why) = null
 rule_data schema index (rule.Absent table) = indexed_data index (codes "absent") (codes "P2025") (member (codes "model") (string (table_at schema table.0).name) no_members)
+rule_data schema index (rule.Dangling table field) = null
 
 abbrev pub memory_data : Data
 memory_data = error_data (codes "memory") (codes "E0") no_members
 
+-- a fault of the connector, by the counts of its faults
+abbrev pub connector_data : Option ℕ → ℕ → ℕ → Data
+connector_data index before after = indexed_data index (codes "connector") (codes "E1") (member (codes "after") (number (unsigned after)) (member (codes "before") (number (unsigned before)) no_members))
+
+abbrev pub stored_column : Option Column → List ℕ
+stored_column None = []
+stored_column (Some column) = column.stored
+
+-- a kept row that doesn't fit, by the stored names of its column and its table
+abbrev pub misfit_data : Option ℕ → Table → ℕ → Data
+misfit_data index table column =
+    indexed_data index (codes "misfit") (codes "P2023") (member (codes "column") (string (stored_column (slice_get table.columns column))) (member (codes "table") (string table.stored) no_members))
+
 abbrev pub fault_data : Schema → Option ℕ → OpFault → Data
 fault_data schema index (fault.Rule broken) = rule_data schema index broken
+fault_data schema index (fault.Connector before after) = connector_data index before after
+fault_data schema index (fault.Misfit table column) = misfit_data index (table_at schema table.0) column
 fault_data schema index fault.Memory = memory_data
 
 abbrev pub unseen_data : ℕ → ℕ → Data

@@ -1,8 +1,8 @@
 -- What a line asks for: its JSON value, and the operation that the value is a request of.
-use Rattle.std.specs.Prelude.{ℕ, ℤ, List, [], ◌∷◌, Bool, true, false, ◌&&◌, ◌==◌, if◌then◌else◌, length, map, Option, Some, None, option_map, option_and_then, is_some, slice_get, codes, bytes_eq}
+use Rattle.std.specs.Prelude.{ℕ, ℤ, List, [], ◌∷◌, Bool, false, ◌&&◌, ◌==◌, not, if◌then◌else◌, length, map, Option, Some, None, option_map, option_and_then, is_some, slice_get, codes, bytes_eq}
 use Rattle.std.specs.List.{list_all, enumerate_from}
 use Rattle.std.specs.Str.{is_utf8}
-use Rattle.serde_json.specs.Data.{Data, object, Members}
+use Rattle.serde_json.specs.Data.{Data, object}
 use Rattle.serde_json.specs.Events.{members_len}
 use Rattle.serde_json.specs.Find.{get, get_member, as_str, as_number, as_i64}
 use Rattle.serde_json.specs.Read.{read}
@@ -13,15 +13,16 @@ use Rattle.qe_base.specs.declared.value.Value.{Value}
 use Rattle.qe_base.specs.declared.value.Value.TheVariants as value
 use Rattle.qe_base.specs.declared.schema.Column.{Column}
 use Rattle.qe_base.specs.declared.schema.Table.{Table}
-use Rattle.qe_base.specs.declared.schema.Schema.{Schema}
+use Rattle.qe_schema.specs.Schemas.{Schema}
 use Rattle.qe_base.specs.declared.query.Filter as filter
 use Rattle.qe_base.specs.declared.query.Pick.{Pick, roll-Pick}
-use Rattle.qe_base.specs.declared.write.Create.{Create, roll-Create}
+use Rattle.qe_base.specs.declared.write.Create.{roll-Create}
 use Rattle.qe_base.specs.declared.write.Op.{Op}
 use Rattle.qe_base.specs.declared.write.Op.TheVariants as op
-use Rattle.qe_base.specs.Lookup.{table_named}
-use Rattle.qe_tables.specs.Fits.{is_small}
+use Rattle.qe_schema.specs.Schemas.{table_named}
+use Rattle.qe_scalars.specs.Numbers.{is_small}
 use Rattle.qe_tables.specs.Tables.{table_at, id_columns}
+use Rattle.qe_plain.specs.Simple.{is_simple}
 
 -- an object whose members have just these names
 abbrev pub is_object_of : List (List ℕ) → Data → Bool
@@ -35,10 +36,15 @@ alone name json = if is_object_of (name ∷ []) json then get name json else Non
 abbrev pub small_number : ℤ → Option Value
 small_number number = if is_small number then Some (value.Int number) else None
 
--- the value of a kind that JSON stands for
+-- the value of a kind that JSON stands for; of the other kinds none is taken yet
 abbrev pub value_of : Kind → Data → Option Value
 value_of kind.Text json = option_map value.Text (as_str json)
+value_of kind.Bool json = None
 value_of kind.Int json = option_and_then small_number (option_and_then as_i64 (as_number json))
+value_of kind.Big json = None
+value_of kind.Moment json = None
+value_of kind.Blob json = None
+value_of (kind.Member enum) json = None
 
 -- all of them, where each is there
 abbrev pub all_of : {A : Type 0} → List (Option A) → Option (List A)
@@ -74,11 +80,12 @@ find_by id table (number ∷ other ∷ others) json = None
 abbrev pub find_of : TableId → Table → Data → Option Op
 find_of id table json = find_by id table (id_columns table) json
 
--- the operation of an action on a table, by its arguments
+-- the operation of an action on a model that is simple, by its arguments
 abbrev pub op_of : Schema → TableId → List ℕ → Data → Option Op
 op_of schema id action arguments =
-    if bytes_eq action (codes "create") then option_and_then (create_of id (table_at schema id.0)) (alone (codes "data") arguments)
-    else (if bytes_eq action (codes "findUnique") then option_and_then (find_of id (table_at schema id.0)) (alone (codes "where") arguments) else None)
+    if not (is_simple (table_at schema id.0)) then None
+    else (if bytes_eq action (codes "create") then option_and_then (create_of id (table_at schema id.0)) (alone (codes "data") arguments)
+    else (if bytes_eq action (codes "findUnique") then option_and_then (find_of id (table_at schema id.0)) (alone (codes "where") arguments) else None))
 
 abbrev pub text_at : List ℕ → Data → Option (List ℕ)
 text_at name json = option_and_then as_str (get name json)

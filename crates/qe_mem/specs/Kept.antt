@@ -1,7 +1,8 @@
--- What is kept of a model: the column of its id, its rows in the order of their ids, its counter.
-use Rattle.std.specs.Prelude.{◌≡◌, ℕ, ℤ, List, ◌∷◌, ◌++◌, Bool, true, false, Option, map, filter, find}
-use Rattle.std.specs.List.{list_any, AllByRecursion}
+-- What is kept of a table: the column of its id, its rows in the order of their ids, its counter.
+use Rattle.std.specs.Prelude.{◌≡◌, ℕ, ℤ, pos, List, [], ◌∷◌, ◌++◌, Bool, Option, map, filter, find, slice_get, unwrap_or}
+use Rattle.std.specs.List.{AllByRecursion}
 use Rattle.std.specs.Ordering.{is_lt, is_gt}
+use Rattle.std.specs.declared.cmp.Ordering.TheVariants.{Equal}
 use Rattle.qe_base.specs.Values.{value_cmp, value_eq}
 use Rattle.qe_base.specs.declared.value.Row.{Row}
 use Rattle.qe_base.specs.declared.value.Value.{Value}
@@ -13,12 +14,20 @@ pub record Kept : Type 0 where
   pub rows : List Row
   pub last : ℤ
 
+-- a table without rows
+abbrev pub none_kept : ℕ → Kept
+none_kept column = record { column = column; rows = []; last = pos 0 }
+
+-- what is kept of a table of this number, and no rows where there is none
+abbrev pub kept_at : List Kept → ℕ → Kept
+kept_at tables table = unwrap_or (slice_get tables table) (none_kept 0)
+
 abbrev pub rows_in : List (Value × Row) → List Row
 rows_in entries = map (λ entry. entry.1) entries
 
 -- each row stands under its id
 abbrev pub HaveIds : ℕ → List (Value × Row) → Type 0
-HaveIds column entries = AllByRecursion (λ entry. entry.0 ≡ value_at entry.1 column) entries
+HaveIds column entries = AllByRecursion (λ entry. value_cmp entry.0 (value_at entry.1 column) ≡ Equal) entries
 
 abbrev pub has_id : ℕ → Value → Row → Bool
 has_id column id row = value_eq (value_at row column) id
@@ -26,15 +35,11 @@ has_id column id row = value_eq (value_at row column) id
 abbrev pub row_of_id : ℕ → Value → List Row → Option Row
 row_of_id column id rows = find (has_id column id) rows
 
-abbrev pub id_in : ℕ → Value → List Row → Bool
-id_in column id rows = list_any (has_id column id) rows
-
 -- the rows with this one at its place
 abbrev pub placed : ℕ → Row → List Row → List Row
 placed column row rows =
     filter (λ other. is_lt (value_cmp (value_at other column) (value_at row column))) rows ++ row ∷ filter (λ other. is_gt (value_cmp (value_at other column) (value_at row column))) rows
 
--- A new row is placed, and its id raises the counter. A row whose id is there changes nothing.
-abbrev pub Inserts : Bool → Kept → Row → Kept → Type 0
-Inserts true old row new = (id_in old.column (value_at row old.column) old.rows ≡ false) × (new ≡ record { column = old.column; rows = placed old.column row old.rows; last = raised_to (value_at row old.column) old.last })
-Inserts false old row new = (id_in old.column (value_at row old.column) old.rows ≡ true) × (new ≡ old)
+-- with this row at its place, and the counter raised to its id
+abbrev pub with_row : Row → Kept → Kept
+with_row row kept = record { column = kept.column; rows = placed kept.column row kept.rows; last = raised_to (value_at row kept.column) kept.last }

@@ -1,8 +1,10 @@
 //! Rows that are kept and found again.
 use crate::MemConnector;
-use qe_base::{Items, Memory, Row, Text, Value};
+use qe_base::{Items, Memory, Row, TableId, Text, Value};
 use std::alloc::Global;
 use std::test::Fail;
+
+const PEOPLE: TableId = TableId(1);
 
 fn text(alloc: Global, text: &str) -> Result<Value, Memory> {
     Ok(Value::Text(Text::from_str(alloc, text)?))
@@ -13,6 +15,15 @@ fn person(alloc: Global, id: i64, name: &str) -> Result<Row, Memory> {
     values.push(Value::Int(id))?;
     values.push(text(alloc, name)?)?;
     Ok(Row { values })
+}
+
+/// Two tables, the second with an id in its column 0 and these people.
+fn people(alloc: Global) -> Result<MemConnector, Memory> {
+    let mut tables = MemConnector::new(alloc, &[1, 0])?;
+    for (id, name) in [(5, "b"), (9, "c"), (-7, "a"), (5, "d"), (6, "b")] {
+        tables.put(PEOPLE, person(alloc, id, name)?)?;
+    }
+    Ok(tables)
 }
 
 /// Whether this is the row of a person.
@@ -27,44 +38,31 @@ fn is_person(found: Option<&Row>, id: i64, name: &str) -> bool {
 }
 
 #[test]
-fn finds_the_first_row_of_a_number(rt: HostRuntime) -> Result<(), Fail> {
+fn finds_by_the_id(rt: HostRuntime) -> Result<(), Fail> {
     let alloc = rt.alloc();
-    let mut people = MemConnector::new(alloc, 0)?;
-    for (id, name, want) in [
-        (5, "b", true),
-        (9, "c", true),
-        (-7, "a", true),
-        (5, "d", false),
-        (6, "b", true),
-    ] {
-        let inserted = people.insert(person(alloc, id, name)?)?;
-        assert_eq!(rt; inserted, want, "{id} {name}");
+    let tables = people(alloc)?;
+    for (id, name) in [(-7, "a"), (5, "d"), (6, "b"), (9, "c")] {
+        let found = tables.find(PEOPLE, &[0], &[Value::Int(id)]);
+        assert!(rt; is_person(found, id, name), "{id}");
     }
-    for (id, name) in [(-7, "a"), (5, "b"), (6, "b"), (9, "c")] {
-        assert!(rt; is_person(people.find(&Value::Int(id)), id, name), "{id}");
-    }
-    assert!(rt; people.find(&Value::Int(0)).is_none());
-    assert!(rt; people.find(&Value::Null).is_none());
+    assert!(rt; tables.find(PEOPLE, &[0], &[Value::Int(0)]).is_none());
+    assert!(rt; tables.find(PEOPLE, &[0], &[Value::Null]).is_none());
+    assert!(rt; tables.find(TableId(0), &[0], &[Value::Int(5)]).is_none());
+    assert!(rt; tables.find(TableId(2), &[0], &[Value::Int(5)]).is_none());
     Ok(())
 }
 
 #[test]
-fn finds_the_first_row_of_a_text(rt: HostRuntime) -> Result<(), Fail> {
+fn finds_by_other_columns(rt: HostRuntime) -> Result<(), Fail> {
     let alloc = rt.alloc();
-    let mut people = MemConnector::new(alloc, 1)?;
-    for (id, name, want) in [
-        (1, "b", true),
-        (2, "a", true),
-        (3, "b", false),
-        (1, "", true),
-    ] {
-        let inserted = people.insert(person(alloc, id, name)?)?;
-        assert_eq!(rt; inserted, want, "{id} {name}");
-    }
-    for (id, name) in [(1, ""), (2, "a"), (1, "b")] {
-        let key = text(alloc, name)?;
-        assert!(rt; is_person(people.find(&key), id, name), "{name}");
-    }
-    assert!(rt; people.find(&text(alloc, "c")?).is_none());
+    let tables = people(alloc)?;
+    assert!(rt; is_person(tables.find(PEOPLE, &[1], &[text(alloc, "d")?]), 5, "d"));
+    assert!(rt; is_person(tables.find(PEOPLE, &[1], &[text(alloc, "a")?]), -7, "a"));
+    let both = [text(alloc, "b")?, Value::Int(6)];
+    assert!(rt; is_person(tables.find(PEOPLE, &[1, 0], &both), 6, "b"));
+    let apart = [text(alloc, "b")?, Value::Int(9)];
+    assert!(rt; tables.find(PEOPLE, &[1, 0], &apart).is_none());
+    assert!(rt; tables.find(PEOPLE, &[1], &both).is_none());
+    assert!(rt; tables.find(PEOPLE, &[2], &[Value::Null]).is_none());
     Ok(())
 }

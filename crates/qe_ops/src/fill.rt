@@ -1,9 +1,9 @@
 //! Filling a new row.
-ghost use Rattle.std.specs.Prelude.{◌≡◌, ◌<◌, ◌^◌, length, IfOk};
+ghost use Rattle.std.specs.Prelude.{◌≡◌, ◌≤◌, length, IfOk};
 ghost use Rattle.std.specs.Option.{option_copied};
-ghost use Rattle.qe_tables.specs.Put.{given_for, fill_value, value_of, filled};
+ghost use Rattle.qe_plain.specs.Filled.{given_for, value_of, filled};
 
-use qe_base::{Column, Fill, Items, Memory, Row, Value};
+use qe_base::{Column, Items, Memory, Row, Value};
 use std::alloc::Global;
 
 /// The value that is given for a column.
@@ -18,16 +18,7 @@ fn given(column: u16, values: &[(u16, Value)]) -> Option<&Value>
     None
 }
 
-/// What a column has where no value is given.
-fn filling(fill: &Fill) -> Value
-    ensures { result ≡ fill_value fill.now }
-{
-    match fill {
-        Fill::Absent => Value::Null,
-    }
-}
-
-/// What a new row has in the column of a number.
+/// What a new row has in the column of a number: the given value, else null.
 fn value_for(
     alloc: Global,
     number: u16,
@@ -38,13 +29,13 @@ fn value_for(
 {
     match given(number, values) {
         Some(value) => value.copy(alloc),
-        None => Ok(filling(&column.fill)),
+        None => Ok(Value::Null),
     }
 }
 
-/// A new row of these columns: the given values, and the fills of the other columns.
+/// A new row of these columns, with the given values.
 pub fn fill(alloc: Global, columns: &[Column], values: &[(u16, Value)]) -> Result<Row, Memory>
-    requires { length columns.now < 2 ^ 16 }
+    requires { length columns.now ≤ 128 }
     ensures { IfOk result (λ row. row ≡ filled columns.now values.now) }
 {
     let mut filled = Items::new(alloc);

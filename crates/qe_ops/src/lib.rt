@@ -2,6 +2,7 @@
 #![tactic(auto)]
 
 mod fill;
+mod keys;
 mod run;
 mod shape;
 #[cfg(test)]

@@ -1,20 +1,10 @@
 //! Showing a row as an answer.
 ghost use Rattle.std.specs.Prelude.{◌≡◌, IfOk, slice_get};
-ghost use Rattle.qe_tables.specs.Columns.{value_at};
 ghost use Rattle.qe_plain.specs.Shape.{scalar_of, shape_of};
 
-use qe_base::{Answer, Items, Memory, Pick, Row, Table, Text, Value};
+use qe_base::{Answer, Items, Memory, Pick, Row, Table, Text};
+use qe_mem::value_in;
 use std::alloc::Global;
-
-/// The value in a column, null where there is no such column.
-fn value_in(alloc: Global, row: &Row, column: u16) -> Result<Value, Memory>
-    ensures { IfOk result (λ value. value ≡ value_at row.now column) }
-{
-    match sqlite_items::at(row.values.as_slice(), column as usize) {
-        Some(value) => value.copy(alloc),
-        None => Ok(Value::Null),
-    }
-}
 
 /// The value in a column, by the column's name.
 fn scalar(alloc: Global, table: &Table, column: u16, row: &Row) -> Result<(Text, Answer), Memory>

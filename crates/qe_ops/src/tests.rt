@@ -1,26 +1,19 @@
-//! Operations over a schema of one model, and what they answer.
-ghost use Rattle.std.specs.Prelude.{◌≡◌, ◌∷◌, [], pos, false, codes, IfOk};
-ghost use Rattle.qe_base.specs.declared.schema.Fill.TheVariants.{Absent};
-ghost use Rattle.qe_base.specs.declared.value.Kind.TheVariants as kind;
-ghost use Rattle.qe_base.specs.declared.value.Value.TheVariants as value;
-ghost use Rattle.qe_base.specs.declared.query.Filter.TheVariants as filter;
-ghost use Rattle.qe_base.specs.declared.query.Pick.{roll-Pick};
-ghost use Rattle.qe_base.specs.declared.write.Create.{roll-Create};
-ghost use Rattle.qe_ops.specs.Performs.{IsKeptFor};
+//! Operations on a model of two keys, and what they answer.
+ghost use Rattle.std.specs.Prelude.{◌≡◌, length, IfOk};
 
-use crate::run_op;
+use crate::run::{create, find};
 use qe_base::{
-    Answer, Column, Create, Fill, Filter, Items, Key, Kind, Memory, Op, OpFault, Pick, Row, Rule,
-    Schema, Table, TableId, Text, Unique, Value,
+    Answer, Column, Create, Fill, Filter, Items, Key, Kind, Memory, OpFault, Pick, Row, Rule,
+    Table, TableId, Text, Unique, Value,
 };
 use qe_mem::MemConnector;
 use std::alloc::Global;
 use std::test::Fail;
 
-/// A required column.
-fn column(alloc: Global, name: &str, kind: Kind) -> Result<Column, Memory>
-    ensures { IfOk result (λ column. column ≡ record { name = name.now; stored = name.now; kind = kind; optional = false; fill = Absent; updated = false }) }
-{
+/// The number of the users' table.
+const USERS: TableId = TableId(1);
+
+fn column(alloc: Global, name: &str, kind: Kind) -> Result<Column, Memory> {
     Ok(Column {
         name: Text::from_str(alloc, name)?,
         stored: Text::from_str(alloc, name)?,
@@ -31,36 +24,56 @@ fn column(alloc: Global, name: &str, kind: Kind) -> Result<Column, Memory>
     })
 }
 
-/// The values of a user.
-fn given(alloc: Global, id: u8, name: &str) -> Result<Create, Memory>
-    ensures { IfOk result (λ tree. tree ≡ roll-Create (record { values = (0, value.Int (pos id)) ∷ (1, value.Text name.now) ∷ []; nested = [] })) }
-{
-    let mut values = Items::new(alloc);
-    values.push((0, Value::Int(id as i64)))?;
-    values.push((1, Value::Text(Text::from_str(alloc, name)?)))?;
-    Ok(Create {
-        values,
-        nested: Items::new(alloc),
+fn key(alloc: Global, name: &str, column: u16) -> Result<Key, Memory> {
+    Ok(Key {
+        name: Text::from_str(alloc, name)?,
+        columns: Items::from_slice(alloc, &[column])?,
     })
 }
 
-/// A user by its id.
-fn by_id(alloc: Global, id: u8) -> Result<Unique, Memory>
-    ensures { IfOk result (λ at. at ≡ record { key = 0; values = record { values = value.Int (pos id) ∷ [] }; extra = filter.All [] }) }
+/// A model of users, with an id and a unique name.
+fn user(alloc: Global) -> Result<Table, Memory>
+    ensures { IfOk result (λ table. length table.columns ≡ 2) }
 {
-    let mut values = Items::new(alloc);
-    values.push(Value::Int(id as i64))?;
-    Ok(Unique {
-        key: 0,
-        values: Row { values },
-        extra: Filter::All(Items::new(alloc)),
+    let mut columns = Items::new(alloc);
+    columns.push(column(alloc, "id", Kind::Int)?)?;
+    columns.push(column(alloc, "name", Kind::Text)?)?;
+    let mut keys = Items::new(alloc);
+    keys.push(key(alloc, "id", 0)?)?;
+    keys.push(key(alloc, "name", 1)?)?;
+    Ok(Table {
+        name: Text::from_str(alloc, "User")?,
+        stored: Text::from_str(alloc, "User")?,
+        link: false,
+        columns,
+        keys,
+        fields: Items::new(alloc),
+        indexes: Items::new(alloc),
     })
+}
+
+fn text(alloc: Global, text: &str) -> Result<Value, Memory> {
+    Ok(Value::Text(Text::from_str(alloc, text)?))
+}
+
+/// The tables with Ada of id 1 and Bob of id 2.
+fn users(alloc: Global) -> Result<MemConnector, Memory>
+    ensures { IfOk result (λ tables. length tables ≡ 2) }
+{
+    let mut ada = Items::new(alloc);
+    ada.push(Value::Int(1))?;
+    ada.push(text(alloc, "Ada")?)?;
+    let mut bob = Items::new(alloc);
+    bob.push(Value::Int(2))?;
+    bob.push(text(alloc, "Bob")?)?;
+    let mut tables = MemConnector::new(alloc, &[0, 0])?;
+    tables.put(USERS, Row { values: bob })?;
+    tables.put(USERS, Row { values: ada })?;
+    Ok(tables)
 }
 
 /// Both columns.
-fn whole(alloc: Global) -> Result<Pick, Memory>
-    ensures { IfOk result (λ pick. pick ≡ roll-Pick (record { columns = 0 ∷ 1 ∷ []; counts = []; children = [] })) }
-{
+fn whole(alloc: Global) -> Result<Pick, Memory> {
     Ok(Pick {
         columns: Items::from_slice(alloc, &[0, 1])?,
         counts: Items::new(alloc),
@@ -68,65 +81,42 @@ fn whole(alloc: Global) -> Result<Pick, Memory>
     })
 }
 
-/// A schema whose one model has an id and a name, and the rows of the model.
-#[derive(Drop)]
-struct Users {
-    schema: Schema,
-    tables: MemConnector,
-    ghost users: { schema.tables ≡ record { name = codes "User"; stored = codes "User"; link = false; columns = record { name = codes "id"; stored = codes "id"; kind = kind.Int; optional = false; fill = Absent; updated = false } ∷ record { name = codes "name"; stored = codes "name"; kind = kind.Text; optional = false; fill = Absent; updated = false } ∷ []; keys = record { name = codes "id"; columns = 0 ∷ [] } ∷ []; fields = []; indexes = [] } ∷ [] },
-    ghost kept: { IsKeptFor schema tables },
+/// The values of a user.
+fn given(alloc: Global, id: i64, name: &str) -> Result<Create, Memory> {
+    let mut values = Items::new(alloc);
+    values.push((0, Value::Int(id)))?;
+    values.push((1, text(alloc, name)?))?;
+    Ok(Create {
+        values,
+        nested: Items::new(alloc),
+    })
 }
 
-impl Users {
-    fn new(alloc: Global) -> Result<Users, Memory> {
-        let mut columns = Items::new(alloc);
-        columns.push(column(alloc, "id", Kind::Int)?)?;
-        columns.push(column(alloc, "name", Kind::Text)?)?;
-        let mut keys = Items::new(alloc);
-        keys.push(Key {
-            name: Text::from_str(alloc, "id")?,
-            columns: Items::from_slice(alloc, &[0])?,
-        })?;
-        let mut tables = Items::new(alloc);
-        tables.push(Table {
-            name: Text::from_str(alloc, "User")?,
-            stored: Text::from_str(alloc, "User")?,
-            link: false,
-            columns,
-            keys,
-            fields: Items::new(alloc),
-            indexes: Items::new(alloc),
-        })?;
-        let schema = Schema {
-            tables,
-            relations: Items::new(alloc),
-            links: Items::new(alloc),
-            choices: Items::new(alloc),
-        };
-        Ok(Users {
-            schema,
-            tables: MemConnector::new(alloc, 0)?,
-        })
-    }
+/// A user by one of its keys.
+fn with_key(alloc: Global, key: u16, value: Value) -> Result<Unique, Memory> {
+    let mut values = Items::new(alloc);
+    values.push(value)?;
+    Ok(Unique {
+        key,
+        values: Row { values },
+        extra: Filter::All(Items::new(alloc)),
+    })
+}
 
-    fn create(&mut self, alloc: Global, id: u8, name: &str) -> Result<Answer, OpFault> {
-        let op = Op::Create {
-            table: TableId(0),
-            tree: given(alloc, id, name)?,
-            pick: whole(alloc)?,
-        };
-        run_op(alloc, &self.schema, &op, &mut self.tables)
-    }
+fn create_user(alloc: Global, id: i64, name: &str) -> Result<Answer, OpFault> {
+    let tree = given(alloc, id, name)?;
+    let model = user(alloc)?;
+    let pick = whole(alloc)?;
+    let mut tables = users(alloc)?;
+    create(alloc, USERS, &model, &tree, &pick, &mut tables)
+}
 
-    fn find(&mut self, alloc: Global, id: u8, strict: bool) -> Result<Answer, OpFault> {
-        let op = Op::FindUnique {
-            table: TableId(0),
-            at: by_id(alloc, id)?,
-            strict,
-            pick: whole(alloc)?,
-        };
-        run_op(alloc, &self.schema, &op, &mut self.tables)
-    }
+fn find_user(alloc: Global, key: u16, value: Value, strict: bool) -> Result<Answer, OpFault> {
+    let at = with_key(alloc, key, value)?;
+    let model = user(alloc)?;
+    let pick = whole(alloc)?;
+    let tables = users(alloc)?;
+    find(alloc, USERS, &model, &at, strict, &pick, &tables)
 }
 
 /// The name that is answered, or a word for what is answered in its place.
@@ -140,33 +130,38 @@ fn said(answer: &Result<Answer, OpFault>) -> &str {
             ] if id.is_same("id") && column.is_same("name") => name.as_str(),
             _ => "?",
         },
-        Err(OpFault::Rule(Rule::Unique { .. })) => "unique",
+        Err(OpFault::Rule(Rule::Unique { key, .. })) if *key == 0 => "id is held",
+        Err(OpFault::Rule(Rule::Unique { .. })) => "name is held",
         Err(OpFault::Rule(Rule::Absent { .. })) => "absent",
         _ => "?",
     }
 }
 
 #[test]
-fn creates_and_finds(rt: HostRuntime) -> Result<(), Fail> {
+fn creates_where_no_key_is_held(rt: HostRuntime) -> Result<(), Fail> {
     let alloc = rt.alloc();
-    let mut users = Users::new(alloc)?;
     for (id, name, want) in [
         (3, "Cyd", "Cyd"),
-        (1, "Ada", "Ada"),
-        (1, "Bob", "unique"),
-        (2, "Ada", "Ada"),
+        (1, "Cyd", "id is held"),
+        (3, "Bob", "name is held"),
+        (1, "Bob", "id is held"),
     ] {
-        let answer = users.create(alloc, id, name);
+        let answer = create_user(alloc, id, name);
         assert_eq!(rt; said(&answer), want, "at {id}, {name}");
     }
-    for (id, strict, want) in [
-        (1, false, "Ada"),
-        (3, true, "Cyd"),
-        (4, false, "null"),
-        (4, true, "absent"),
-    ] {
-        let answer = users.find(alloc, id, strict);
+    Ok(())
+}
+
+#[test]
+fn finds_by_either_key(rt: HostRuntime) -> Result<(), Fail> {
+    let alloc = rt.alloc();
+    for (id, strict, want) in [(1, false, "Ada"), (4, false, "null"), (4, true, "absent")] {
+        let answer = find_user(alloc, 0, Value::Int(id), strict);
         assert_eq!(rt; said(&answer), want, "at {id}, {strict}");
+    }
+    for (name, want) in [("Bob", "Bob"), ("Cyd", "absent")] {
+        let answer = find_user(alloc, 1, text(alloc, name)?, true);
+        assert_eq!(rt; said(&answer), want, "at {name}");
     }
     Ok(())
 }

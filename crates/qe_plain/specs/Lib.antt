@@ -1,3 +1,5 @@
+pub mod Filled
 pub mod Fits
 pub mod Plain
 pub mod Shape
+pub mod Simple

@@ -9,7 +9,7 @@ use Rattle.qe_base.specs.declared.value.Value.{Value}
 use Rattle.qe_base.specs.declared.value.Value.TheVariants as value
 use Rattle.qe_base.specs.declared.schema.Column.{Column}
 use Rattle.qe_base.specs.declared.schema.Table.{Table}
-use Rattle.qe_base.specs.declared.schema.Schema.{Schema}
+use Rattle.qe_schema.specs.Schemas.{Schema}
 use Rattle.qe_base.specs.declared.answer.Answer.{Answer, Object, the_lemmas, Answer-F, roll-Answer, map-Answer, ind-Answer, fold-roll-Answer}
 use Rattle.qe_base.specs.declared.answer.Answer.TheOpen as answer
 use Rattle.qe_base.specs.declared.answer.OpFault.{OpFault}
@@ -25,7 +25,11 @@ answer_object members = search (rules, the_lemmas)
 scalar_whole : (found : Value) → has_float (scalar_data found) ≡ false
 scalar_whole value.Null = refl
 scalar_whole (value.Text text) = refl
+scalar_whole (value.Bool truth) = refl
 scalar_whole (value.Int number) = search rules
+scalar_whole (value.Moment moment) = refl
+scalar_whole (value.Blob bytes) = refl
+scalar_whole (value.Member chosen) = refl
 
 -- the JSON of a member has no float
 abbrev MemberWhole : List ℕ × Data → Type 0
@@ -94,8 +98,14 @@ names_whole table (column ∷ columns) = or_false _ _ (column_whole (slice_get t
 
 rule_whole : (schema : Schema) (index : Option ℕ) (broken : Rule) → has_float (rule_data schema index broken) ≡ false
 rule_whole schema index (rule.Unique table key) = indexed_whole index _ _ _ (or_false _ _ (names_whole (table_at schema table.0) (columns_of_key (slice_get (table_at schema table.0).keys key))) refl)
+rule_whole schema index (rule.Required relation) = refl
+rule_whole schema index (rule.Unconnected table field) = refl
+rule_whole schema index (rule.Range table column why) = refl
+rule_whole schema index (rule.Dangling table field) = refl
 rule_whole schema index (rule.Absent table) = indexed_whole index _ _ _ refl
 
 pub fault_whole : (schema : Schema) (index : Option ℕ) (broken : OpFault) → has_float (fault_data schema index broken) ≡ false
 fault_whole schema index (fault.Rule broken) = rule_whole schema index broken
+fault_whole schema index (fault.Connector before after) = indexed_whole index _ _ _ refl
+fault_whole schema index (fault.Misfit table column) = indexed_whole index _ _ _ refl
 fault_whole schema index fault.Memory = refl

@@ -8,13 +8,18 @@ use qe_base::{Answer, Memory, Text, Value};
 use serde_json::{Map, Value as Json};
 use std::alloc::Global;
 
+/// No answer has a value of the other kinds yet, and null stands for it.
 fn scalar_json(alloc: Global, value: &Value) -> Result<Json, Memory>
     ensures { IfOk result (λ json. view json ≡ scalar_data value.now) }
 {
     match value {
         Value::Null => Ok(Json::Null),
         Value::Text(text) => Ok(Json::try_from_str(alloc, text.as_str())?),
+        Value::Bool(_) => Ok(Json::Null),
         Value::Int(number) => Ok(Json::from(*number)),
+        Value::Moment(_) => Ok(Json::Null),
+        Value::Blob(_) => Ok(Json::Null),
+        Value::Member(_) => Ok(Json::Null),
     }
 }
 

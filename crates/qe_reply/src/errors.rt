@@ -3,9 +3,10 @@ ghost use Rattle.std.specs.Prelude.{◌≡◌, map, slice_get, codes, IfOk};
 ghost use Rattle.serde_json.specs.Data.{string, array, object, member, no_members, put};
 ghost use Rattle.serde_json.specs.View.{view, items_of, items_view, members_view};
 ghost use Rattle.qe_tables.specs.Tables.{table_at};
-ghost use Rattle.qe_forms.specs.Reply.{single, indexed_data, column_name, columns_of_key, names_data, rule_data, fault_data, unseen_data};
+ghost use Rattle.qe_forms.specs.Reply.{single, indexed_data, column_name, columns_of_key, names_data, rule_data, connector_data, stored_column as stored_name, misfit_data, fault_data, unseen_data};
 
-use qe_base::{Column, Memory, OpFault, Rule, Schema, Table, TableId};
+use qe_base::{Column, Memory, OpFault, Rule, Table, TableId};
+use qe_schema::Schema;
 use serde_json::{Map, Value as Json};
 use std::alloc::Global;
 
@@ -108,6 +109,7 @@ fn target_json(alloc: Global, schema: &Schema, table: TableId, key: u16) -> Resu
     }
 }
 
+/// No operation breaks the other rules yet, and null stands for their error.
 fn rule_json(
     alloc: Global,
     schema: &Schema,
@@ -123,11 +125,74 @@ fn rule_json(
             serde_json::put(&mut meta, alloc, "target", target)?;
             error_json(alloc, index, "unique", "P2002", meta)
         }
+        Rule::Required { .. } => Ok(Json::Null),
+        Rule::Unconnected { .. } => Ok(Json::Null),
+        Rule::Range { .. } => Ok(Json::Null),
         Rule::Absent { table } => {
             let meta = model_meta(alloc, schema, table)?;
             error_json(alloc, index, "absent", "P2025", meta)
         }
+        Rule::Dangling { .. } => Ok(Json::Null),
     }
+}
+
+/// The error of a connector that failed, with its count of faults before and after.
+pub fn connector_json(
+    alloc: Global,
+    index: Option<u64>,
+    before: u64,
+    after: u64,
+) -> Result<Json, Memory>
+    ensures { IfOk result (λ json. view json ≡ connector_data index before after) }
+{
+    let mut meta = Map::new(alloc);
+    serde_json::put(&mut meta, alloc, "after", Json::from(after))?;
+    serde_json::put(&mut meta, alloc, "before", Json::from(before))?;
+    error_json(alloc, index, "connector", "E1", meta)
+}
+
+fn stored_table(schema: &Schema, table: TableId) -> &str
+    ensures { result.now ≡ (table_at schema.now table.0).stored }
+{
+    match schema.table(table) {
+        Some(table) => table.stored.as_str(),
+        None => "",
+    }
+}
+
+fn stored_among(columns: &[Column], column: u16) -> &str
+    ensures { result.now ≡ stored_name (slice_get columns.now column) }
+{
+    match sqlite_items::at(columns, column as usize) {
+        Some(column) => column.stored.as_str(),
+        None => "",
+    }
+}
+
+fn stored_column(schema: &Schema, table: TableId, column: u16) -> &str
+    ensures { result.now ≡ stored_name (slice_get (table_at schema.now table.0).columns column) }
+{
+    match schema.table(table) {
+        Some(table) => stored_among(table.columns.as_slice(), column),
+        None => "",
+    }
+}
+
+fn misfit_json(
+    alloc: Global,
+    schema: &Schema,
+    index: Option<u64>,
+    table: TableId,
+    column: u16,
+) -> Result<Json, Memory>
+    ensures { IfOk result (λ json. view json ≡ misfit_data index (table_at schema.now table.0) column) }
+{
+    let mut meta = Map::new(alloc);
+    let name = Json::try_from_str(alloc, stored_column(schema, table, column))?;
+    serde_json::put(&mut meta, alloc, "column", name)?;
+    let name = Json::try_from_str(alloc, stored_table(schema, table))?;
+    serde_json::put(&mut meta, alloc, "table", name)?;
+    error_json(alloc, index, "misfit", "P2023", meta)
 }
 
 /// The error of an operation that is refused.
@@ -141,6 +206,8 @@ pub fn fault_json(
 {
     match fault {
         OpFault::Rule(broken) => rule_json(alloc, schema, index, broken),
+        OpFault::Connector { before, after } => connector_json(alloc, index, before, after),
+        OpFault::Misfit { table, column } => misfit_json(alloc, schema, index, table, column),
         OpFault::Memory => error_json(alloc, None, "memory", "E0", Map::new(alloc)),
     }
 }

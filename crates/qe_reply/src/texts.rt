@@ -6,8 +6,9 @@ ghost use Rattle.qe_forms.specs.Reply.{single, answer_data, text_of};
 
 use crate::answers::answer_json;
 use crate::errors::{fault_json, unseen_json};
-use qe_base::{Answer, Memory, OpFault, Schema, Text};
+use qe_base::{Answer, Memory, OpFault, Text};
 use qe_history::Reply;
+use qe_schema::Schema;
 use serde_json::{Value as Json, json};
 use std::alloc::Global;
 
@@ -18,7 +19,8 @@ fn print(alloc: Global, json: &Json) -> Result<Text, Memory>
     Ok(Text::from_string(json.to_string(alloc)?))
 }
 
-fn data_json(alloc: Global, found: &Answer) -> Result<Json, Memory>
+/// The JSON of a reply that answers.
+pub fn data_json(alloc: Global, found: &Answer) -> Result<Json, Memory>
     ensures { IfOk result (λ json. view json ≡ single (codes "data") (answer_data found.now)) }
 {
     let inner = answer_json(alloc, found)?;

@@ -5,6 +5,7 @@ mod lines;
 mod members;
 mod operations;
 mod scalars;
+mod simple;
 #[cfg(test)]
 mod tests;
 

@@ -5,7 +5,8 @@ ghost use Rattle.qe_plain.specs.Fits.{op_fits};
 ghost use Rattle.qe_forms.specs.Request.{json_of, asked_of, asks, not_json, unbuilt};
 
 use crate::operations::request;
-use qe_base::{Memory, Op, Schema};
+use qe_base::{Memory, Op};
+use qe_schema::Schema;
 use serde_json::{Category, Value as Json};
 use std::alloc::Global;
 

@@ -3,14 +3,14 @@ ghost use Rattle.std.specs.Prelude.{◌≡◌, ◌<◌, ◌≤◌, [], ◌∷◌
 ghost use Rattle.std.specs.List.{enumerate_from};
 ghost use Rattle.serde_json.specs.Find.{get};
 ghost use Rattle.serde_json.specs.View.{view};
-ghost use Rattle.qe_tables.specs.Tables.{table_at, id_columns as columns_of_id};
+ghost use Rattle.qe_tables.specs.Tables.{table_at};
 ghost use Rattle.qe_forms.specs.Request.{is_object_of, alone as only, whole_pick as all_columns, create_of as create_by, find_of as find_by_id, op_of as op_by, request_of};
 
 use crate::members::{alone, counts, has, text_at};
 use crate::scalars::{value_at, values_of};
-use qe_base::{
-    Column, Create, Filter, Items, Memory, Op, Pick, Row, Schema, Table, TableId, Unique,
-};
+use crate::simple::{id_columns, is_simple};
+use qe_base::{Column, Create, Filter, Items, Memory, Op, Pick, Row, Table, TableId, Unique};
+use qe_schema::Schema;
 use serde_json::Value as Json;
 use std::alloc::Global;
 
@@ -37,7 +37,13 @@ fn whole_pick(alloc: Global, table: &Table) -> Result<Pick, Memory>
     })
 }
 
-fn create_of(alloc: Global, id: TableId, table: &Table, json: &Json) -> Result<Option<Op>, Memory>
+/// The create of a table that the data asks for.
+pub fn create_of(
+    alloc: Global,
+    id: TableId,
+    table: &Table,
+    json: &Json,
+) -> Result<Option<Op>, Memory>
     requires { length table.now.columns ≤ 128 }
     ensures { IfOk result (λ found. found ≡ create_by id table.now (view json.now)) }
 {
@@ -56,16 +62,8 @@ fn create_of(alloc: Global, id: TableId, table: &Table, json: &Json) -> Result<O
     }))
 }
 
-fn id_columns(table: &Table) -> &[u16]
-    ensures { result.now ≡ columns_of_id table.now }
-{
-    match table.keys.as_slice() {
-        [] => &[],
-        [key, ..] => key.columns.as_slice(),
-    }
-}
-
-fn find_of(alloc: Global, id: TableId, table: &Table, json: &Json) -> Result<Option<Op>, Memory>
+/// The row of a table that the object asks for by its id.
+pub fn find_of(alloc: Global, id: TableId, table: &Table, json: &Json) -> Result<Option<Op>, Memory>
     requires { length table.now.columns ≤ 128 }
     ensures { IfOk result (λ found. found ≡ find_by_id id table.now (view json.now)) }
 {
@@ -96,6 +94,7 @@ fn table_of(schema: &Schema, id: TableId) -> &Table
     ensures table { result.now ≡ table_at schema.now id.0 }
     ensures few { length result.now.columns ≤ 128 }
 {
+    schema.is_accepted();
     schema.table(id).unwrap()
 }
 
@@ -110,6 +109,9 @@ fn op_of(
     ensures { IfOk result (λ found. found ≡ op_by schema.now id action.now (view arguments.now)) }
 {
     let table = table_of(schema, id);
+    if !is_simple(table) {
+        return Ok(None);
+    }
     if action == "create" {
         match alone(arguments, "data") {
             Some(json) => create_of(alloc, id, table, json),

@@ -3,7 +3,7 @@ ghost use Rattle.std.specs.Prelude.{◌≡◌, ◌≤◌, length, map, slice_get
 ghost use Rattle.std.specs.List.{enumerate_from};
 ghost use Rattle.serde_json.specs.Find.{get, as_number, as_i64};
 ghost use Rattle.serde_json.specs.View.{view};
-ghost use Rattle.qe_tables.specs.Fits.{is_small as fits_small};
+ghost use Rattle.qe_scalars.specs.Numbers.{is_small as fits_small};
 ghost use Rattle.qe_forms.specs.Request.{value_of as value_by, all_of, given_in, values_of as values_by, value_at_column, small_number};
 
 use crate::members::{alone, names_columns};
@@ -38,7 +38,12 @@ fn value_of(alloc: Global, kind: Kind, json: &Json) -> Result<Option<Value>, Mem
             Some(text) => Ok(Some(Value::Text(Text::from_str(alloc, text)?))),
             None => Ok(None),
         },
+        Kind::Bool => Ok(None),
         Kind::Int => Ok(whole_number(json)),
+        Kind::Big => Ok(None),
+        Kind::Moment => Ok(None),
+        Kind::Blob => Ok(None),
+        Kind::Member(_) => Ok(None),
     }
 }
 

@@ -1,10 +1,20 @@
-//! Definitions: the texts of moments, of bytes and of whole numbers, and what they stand for.
+//! The texts of moments, of bytes and of whole numbers, and what they stand for.
 #![tactic(auto)]
+
+mod base64_text;
+mod moment_text;
+mod number_text;
+#[cfg(test)]
+mod tests;
 
 ghost use Rattle.std.specs.Prelude.{◌≡◌, pos, negsuc, codes, Some, None, [], ◌∷◌};
 ghost use Rattle.qe_scalars.specs.Moments.{moment_of};
 ghost use Rattle.qe_scalars.specs.Bytes.{bytes_of};
 ghost use Rattle.qe_scalars.specs.Numbers.{is_small, is_big, number_within};
+
+pub use base64_text::bytes_in;
+pub use moment_text::moment_in;
+pub use number_text::{big_in, small_in};
 
 /// Moments as users write them, worked out by hand.
 #[tactic(auto, unfolding(jiff::proofs::OnLiterals::jiff_on_literals))]

@@ -1,40 +1,23 @@
--- Filling a new row, and putting a row into its table.
-use Rattle.std.specs.Prelude.{ℕ, ◌+◌, ℤ, List, [], ◌∷◌, ◌++◌, Bool, true, false, Option, Some, None, Result, Ok, Err, map, filter, find, unwrap_or, option_map, ◌==◌}
-use Rattle.std.specs.List.{list_any, enumerate_from}
+-- Putting a row into its table.
+use Rattle.std.specs.Prelude as Prelude
+use Rattle.std.specs.Prelude.{ℕ, ◌+◌, ℤ, List, [], ◌∷◌, ◌++◌, true, false, Option, Some, None, Result, Ok, Err, filter}
+use Rattle.std.specs.List.{list_any}
 use Rattle.std.specs.Int.{int_max}
 use Rattle.std.specs.Ordering.{is_lt, is_gt}
 use Rattle.qe_base.specs.declared.value.Row.{Row}
 use Rattle.qe_base.specs.declared.value.TableId.{TableId}
 use Rattle.qe_base.specs.declared.value.Value.{Value}
-use Rattle.qe_base.specs.declared.value.Value.TheVariants.{Null, Text, Int}
-use Rattle.qe_base.specs.declared.schema.Column.{Column}
-use Rattle.qe_base.specs.declared.schema.Fill.{Fill}
-use Rattle.qe_base.specs.declared.schema.Fill.TheVariants.{Absent}
+use Rattle.qe_base.specs.declared.value.Value.TheVariants.{Null, Text, Bool, Int, Moment, Blob, Member}
 use Rattle.qe_base.specs.declared.schema.Key.{Key}
 use Rattle.qe_base.specs.declared.schema.Table.{Table}
-use Rattle.qe_base.specs.declared.schema.Schema.{Schema}
+use Rattle.qe_schema.specs.Schemas.{Schema}
 use Rattle.qe_base.specs.declared.answer.Rule.{Rule}
 use Rattle.qe_base.specs.declared.answer.Rule.TheVariants as rule
 use Rattle.qe_tables.specs.Columns.{Values, at_columns, holds, values_cmp, value_at}
 use Rattle.qe_tables.specs.Tables.{Tables, table_at, id_columns, id_of, with_rows, with_last}
 use Rattle.qe_tables.specs.Fits.{counting}
 
--- the value that is given for a column
-abbrev pub given_for : ℕ → List (ℕ × Value) → Option Value
-given_for column given = option_map (λ one. one.1) (find (λ one. one.0 == column) given)
-
-abbrev pub fill_value : Fill → Value
-fill_value Absent = Null
-
--- a column's given value, else its fill
-abbrev pub value_of : List (ℕ × Value) → (ℕ × Column) → Value
-value_of given numbered = unwrap_or (given_for numbered.0 given) (fill_value numbered.1.fill)
-
--- a new row, column by column
-abbrev pub filled : List Column → List (ℕ × Value) → Row
-filled columns given = record { values = map (value_of given) (enumerate_from 0 columns) }
-
-abbrev pub first_broken : Bool → ℕ → Option ℕ → Option ℕ
+abbrev pub first_broken : Prelude.Bool → ℕ → Option ℕ → Option ℕ
 first_broken true number later = Some number
 first_broken false number later = later
 
@@ -50,7 +33,11 @@ put_among table row rows = filter (λ other. is_lt (values_cmp (id_of table othe
 abbrev pub raised_to : Value → ℤ → ℤ
 raised_to Null last = last
 raised_to (Text text) last = last
+raised_to (Bool truth) last = last
 raised_to (Int number) last = int_max last number
+raised_to (Moment moment) last = last
+raised_to (Blob bytes) last = last
+raised_to (Member member) last = last
 
 abbrev pub raised_at : Option ℕ → Row → ℤ → ℤ
 raised_at None row last = last

@@ -1,6 +1,7 @@
 use crate::{attributes_stand_rightly, counters_are_ids, keys_are_distinct, one_id};
+use psl_parts::Types;
 use psl_text::{Tree, read_tree};
-use qe_base::Memory;
+use qe_text::Memory;
 use std::alloc::Global;
 use std::process::Abort;
 use std::test::Fail;
@@ -67,7 +68,8 @@ fn where_attributes_stand(rt: HostRuntime) -> Result<(), Fail> {
     ];
     for (text, want) in rows {
         let tree = tree_of(alloc, text)?;
-        assert_eq!(rt; attributes_stand_rightly(alloc, &tree)?, want);
+        let types = Types::of(alloc, &tree)?;
+        assert_eq!(rt; attributes_stand_rightly(alloc, &types)?, want);
     }
     Ok(())
 }

@@ -9,7 +9,7 @@ use crate::outside::calls::Calls;
 use crate::outside::mem_sink::MemSink;
 use crate::outside::mem_source::MemSource;
 use crate::outside::{Failed, FetchFault, Host, Sink, Source};
-use crate::text::{Bytes, Memory, Text};
+use qe_text::{Bytes, Memory, Text};
 use sqlite_items::Items;
 use std::alloc::Global;
 

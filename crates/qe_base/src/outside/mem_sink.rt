@@ -5,7 +5,7 @@ ghost use Rattle.qe_base.specs.Causes.{HasCause};
 
 use crate::outside::calls::Calls;
 use crate::outside::{Failed, Sink};
-use crate::text::Memory;
+use qe_text::Memory;
 use sqlite_items::Items;
 use std::alloc::Global;
 

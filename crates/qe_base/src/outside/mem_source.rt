@@ -5,7 +5,7 @@ ghost use Rattle.qe_base.specs.Causes.{HasCause};
 
 use crate::outside::calls::Calls;
 use crate::outside::{Failed, Source};
-use crate::text::{Bytes, Memory};
+use qe_text::{Bytes, Memory};
 use sqlite_items::Items;
 use std::alloc::Global;
 

@@ -1,5 +1,5 @@
 use Rattle.std.proofs.Common.{◌≡◌, ◌∙◌, ℕ, sym, ap, map, Bor, not, List}
-use Rattle.qe_base.specs.Accepted.{reserved_names}
+use Rattle.qe_text.specs.Names.{reserved_names}
 use Rattle.psl_text.specs.declared.tree.Name.{Name}
 use Rattle.psl_rules.specs.Parts.{first, earlier, failing, place, repeats, is_among}
 use Rattle.psl_rules.specs.Names.{same_name, type_names}

@@ -1,18 +1,18 @@
 use Rattle.std.proofs.Common.{◌≡◌, ◌∙◌, ap, refl, List, Bor, map}
 use Rattle.std.specs.List.{flat_map}
 use Rattle.psl_text.specs.declared.tree.Block.{Block}
-use Rattle.psl_rules.specs.Parts.{first, earlier}
+use Rattle.psl_rules.specs.Parts.{first, earlier, models}
 use Rattle.psl_rules.specs.Attributes.{wrong_attributes}
 use Rattle.psl_parts.proofs.Firsts.{turn_each, ended, flat_map_map}
 use Rattle.psl_fields.proofs.standing.attributes_stand_rightly.Goals as goal
 
 pub loop-model-preserved : goal.loop-model-preserved
 loop-model-preserved c =
-    turn_each (λ (block : Bor Block). wrong_attributes c.args.tree.now block.now) c.as_slice-model-items.result.now c.loop-model.model-index c.model-item.result c.loop-model.found c.earlier-found.result _ c.loop-model-test.true c.model-item.is
+    turn_each (λ (block : Bor Block). wrong_attributes c.args.types.now block.now) c.as_slice-model-items.result.now c.loop-model.model-index c.model-item.result c.loop-model.found c.earlier-found.result _ c.loop-model-test.true c.model-item.is
     (c.earlier-found.ensures ∙ ap (earlier c.loop-model.found) c.in_ok-wrong_attribute.ensures) c.loop-model.invariant
 
 pub returns : goal.returns
 returns c =
-    let places = wrong_attributes c.args.tree.now in
+    let places = wrong_attributes c.args.types.now in
     ended (flat_map (λ (block : Bor Block). places block.now)) c.as_slice-model-items.result.now c.loop-model.model-index c.loop-model.found _ c.loop-model-test.false refl c.loop-model.invariant
-    ∙ ap first (flat_map_map (λ (block : Bor Block). block.now) places c.as_slice-model-items.result.now ∙ ap (flat_map places) (ap (map (λ (block : Bor Block). block.now)) c.as_slice-model-items.ensures.value ∙ c.in_ok-blocks_of.ensures))
+    ∙ ap first (flat_map_map (λ (block : Bor Block). block.now) places c.as_slice-model-items.result.now ∙ ap (flat_map places) (ap (map (λ (block : Bor Block). block.now)) c.as_slice-model-items.ensures.value ∙ c.in_ok-blocks_of.ensures ∙ ap models c.tree.ensures))

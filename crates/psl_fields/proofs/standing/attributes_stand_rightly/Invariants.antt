@@ -7,5 +7,5 @@ use Rattle.psl_fields.proofs.standing.attributes_stand_rightly.Given as goal
 
 abbrev pub invariant-loop-model : goal.invariant-loop-model
 invariant-loop-model l =
-    let places : List (Bor Block) → List ℕ = flat_map (λ block. wrong_attributes l.tree block.now) in
+    let places : List (Bor Block) → List ℕ = flat_map (λ block. wrong_attributes l.types block.now) in
     earlier l.found (first (places (drop l.model-index l.model-items))) ≡ first (places l.model-items)

@@ -5,4 +5,4 @@ use Rattle.psl_fields.proofs.standing.first_wrong.Given as goal
 
 abbrev pub invariant-loop-attribute : goal.invariant-loop-attribute
 invariant-loop-attribute l =
-    earlier l.found (first (failing (stands_rightly l.tree l.kind) attribute_place (drop l.attribute-index l.attributes))) ≡ first (failing (stands_rightly l.tree l.kind) attribute_place l.attributes)
+    earlier l.found (first (failing (stands_rightly l.types l.kind) attribute_place (drop l.attribute-index l.attributes))) ≡ first (failing (stands_rightly l.types l.kind) attribute_place l.attributes)

@@ -10,13 +10,13 @@ use Rattle.psl_fields.proofs.standing.wrong_attribute.Goals as goal
 
 pub loop-entry-preserved : goal.loop-entry-preserved
 loop-entry-preserved c =
-    turn_some block_attribute_of (failing (is_over_columns c.args.tree.now c.args.model.now) attribute_place) (kept_adds attribute_place (λ attribute. not (is_over_columns c.args.tree.now c.args.model.now attribute)))
+    turn_some block_attribute_of (failing (is_over_columns c.args.types.now c.args.model.now) attribute_place) (kept_adds attribute_place (λ attribute. not (is_over_columns c.args.types.now c.args.model.now attribute)))
     c.as_slice-entry-items.result.now c.loop-entry.entry-index c.entry-item.result c.loop-entry.found c.earlier-found.result _
     c.loop-entry-test.true c.entry-item.is (c.earlier-found.ensures ∙ ap (earlier c.loop-entry.found) c.in_ok-wrong_on_model.ensures) c.loop-entry.invariant
 
 pub returns : goal.returns
 returns c =
-    let tree = c.args.tree.now in
+    let tree = c.args.types.now in
     let model = c.args.model.now in
     let places : List Entry → List ℕ = λ entries. failing (is_over_columns tree model) attribute_place (filter_map block_attribute_of entries) in
     ended places c.as_slice-entry-items.result.now c.loop-entry.entry-index c.loop-entry.found _ c.loop-entry-test.false refl c.loop-entry.invariant

@@ -7,5 +7,5 @@ use Rattle.psl_fields.proofs.standing.wrong_attribute.Given as goal
 
 abbrev pub invariant-loop-entry : goal.invariant-loop-entry
 invariant-loop-entry l =
-    let places : List Entry → List ℕ = λ entries. failing (is_over_columns l.tree l.model) attribute_place (filter_map block_attribute_of entries) in
+    let places : List Entry → List ℕ = λ entries. failing (is_over_columns l.types l.model) attribute_place (filter_map block_attribute_of entries) in
     earlier l.found (first (places (drop l.entry-index l.entry-items))) ≡ earlier l.initial.found (first (places l.entry-items))

@@ -7,5 +7,5 @@ use Rattle.psl_parts.proofs.columns.names_column.Given as goal
 
 abbrev pub invariant-loop-entry : goal.invariant-loop-entry
 invariant-loop-entry l =
-    let named : List ModelField → Bool = list_any (λ field. bytes_eq l.name field.name.text && is_column l.tree field) in
+    let named : List ModelField → Bool = list_any (λ field. bytes_eq l.name field.name.text && is_column l.types field) in
     named (filter_map field_of (drop l.entry-index l.entry-items)) ≡ named (filter_map field_of l.entry-items)

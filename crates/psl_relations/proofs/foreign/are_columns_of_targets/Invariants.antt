@@ -6,5 +6,5 @@ use Rattle.psl_relations.proofs.foreign.are_columns_of_targets.Given as goal
 
 abbrev pub invariant-loop-model : goal.invariant-loop-model
 invariant-loop-model l =
-    let have_columns : List (Bor Block) → Bool = λ models. of_target (map (λ model. model.now) models) l.end (λ model. name_columns l.tree model (map (λ name. name.now) l.names)) in
+    let have_columns : List (Bor Block) → Bool = λ models. of_target (map (λ model. model.now) models) l.end (λ model. name_columns l.types model (map (λ name. name.now) l.names)) in
     have_columns (drop l.model-index l.models) ≡ have_columns l.models

@@ -1,4 +1,4 @@
-use Rattle.std.proofs.Common.{◌≡◌, ◌∙◌, ap, sym, map, filter, ℕ, List, Bor}
+use Rattle.std.proofs.Common.{◌∙◌, ap, sym, map, filter, ℕ, List, Bor}
 use Rattle.psl_text.specs.declared.tree.Tree.{Tree}
 use Rattle.psl_rules.specs.Parts.{first, earlier, failing}
 use Rattle.psl_rules.specs.Relations.{End, Pair, ends, end_place, has_fields, pairs, pairs_among, pair_place}

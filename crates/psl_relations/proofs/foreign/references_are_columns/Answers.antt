@@ -10,7 +10,6 @@ use Rattle.psl_relations.proofs.foreign.references_are_columns.Goals as goal
 pub returns : goal.returns
 returns c =
     let tree : Tree = c.args.types.now in
-    found_among (λ (one : Tree). names_columns one (models tree)) c.tree-2.result.now tree (holders tree) (holders tree) c.first_without_columns.result c.tree-2.ensures refl
-    (found_among (names_columns c.tree-2.result.now) _ _ _ _ c.first_without_columns.result (ap (map (λ (block : Bor Block). block.now)) c.as_slice-2.ensures.value ∙ c.in_ok-models.ensures ∙ ap models c.tree.ensures)
+    found_among (names_columns tree) _ _ _ _ c.first_without_columns.result (ap (map (λ (block : Bor Block). block.now)) c.as_slice-2.ensures.value ∙ c.in_ok-models.ensures ∙ ap models c.tree.ensures)
     (ap (map (λ (end : Bor End). end.now)) c.as_slice-3.ensures.value ∙ c.in_ok-held.ensures ∙ ap (filter has_fields) (c.as_slice.ensures.value ∙ c.in_ok-ends.ensures))
-    c.first_without_columns.ensures)
+    c.first_without_columns.ensures

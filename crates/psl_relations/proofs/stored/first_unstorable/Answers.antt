@@ -1,5 +1,5 @@
-use Rattle.std.proofs.Common.{◌∙◌, ap, refl, not}
-use Rattle.qe_base.specs.Accepted.{is_stored_name}
+use Rattle.std.proofs.Common.{◌∙◌, ap, not}
+use Rattle.qe_text.specs.Names.{is_stored_name}
 use Rattle.psl_text.specs.declared.tree.Name.{Name}
 use Rattle.psl_rules.specs.Parts.{place, noted}
 use Rattle.psl_parts.proofs.Firsts.{turn_failing}

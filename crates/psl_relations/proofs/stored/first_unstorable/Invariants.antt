@@ -1,5 +1,5 @@
 use Rattle.std.proofs.Common.{◌≡◌, drop}
-use Rattle.qe_base.specs.Accepted.{is_stored_name}
+use Rattle.qe_text.specs.Names.{is_stored_name}
 use Rattle.psl_rules.specs.Parts.{first, earlier, failing, place}
 use Rattle.psl_relations.proofs.stored.first_unstorable.Given as goal
 

@@ -1,4 +1,4 @@
-use Rattle.std.proofs.Common.{◌≡◌, ◌∙◌, ap, refl, map, Bor, List, ℕ}
+use Rattle.std.proofs.Common.{◌∙◌, ap, refl, map, Bor, List, ℕ}
 use Rattle.std.specs.List.{flat_map}
 use Rattle.psl_text.specs.declared.tree.Block.{Block}
 use Rattle.psl_text.specs.declared.tree.Tree.{Tree}

@@ -1,8 +1,7 @@
 use Rattle.std.proofs.Common.{sym, subst, map, string_bytes, ◌∙◌}
-use Rattle.qe_cli.specs.declared.words.Command.TheVariants as command
 use Rattle.qe_cli.specs.Command.{SchemaComes}
 use Rattle.qe_cli.specs.Refused.{HasSchema, Unread}
-use Rattle.qe_cli.proofs.Ended.{obeyed, unread, asked_once}
+use Rattle.qe_cli.proofs.Ended.{obeyed, unread, not_run}
 use Rattle.qe_cli.proofs.commands.carry_out.Goals as goal
 
 pub returns-in-Ok-read_schema-clause-comes : goal.returns-in-Ok-read_schema-clause-comes
@@ -22,6 +21,5 @@ returns-clause-comes g c =
 
 pub returns-in-Ok-read_schema-clause-still : goal.returns-in-Ok-read_schema-clause-still
 returns-in-Ok-read_schema-clause-still g c = λ asks.
-    let same = asked_once (map string_bytes c.args.words.now) c.in-Some.command command.Validate c.in-Some.name.now (sym c.in-Some.ensures) asks in
-    let still = c.obey.ensures.still same in
+    let still = c.obey.ensures.still (not_run (map string_bytes c.args.words.now) c.in-Some.command c.in-Some.name.now (sym c.in-Some.ensures) asks) in
     (still.0 ∙ c.fetch.ensures.input.0, still.1 ∙ c.fetch.ensures.input.1)

@@ -1,8 +1,9 @@
 use Rattle.std.proofs.Common.{◌≡◌, map, string_bytes, subst, sym, rules}
 use Rattle.qe_base.specs.Causes.{Rose}
-use Rattle.qe_cli.specs.Command.{Comes, HasSchemaFile, AnswersAll, SaysOk, SaysWhy, line_of}
-use Rattle.qe_cli.proofs.Complete.{accepts, rejects}
-use Rattle.qe_cli.proofs.Ended.{all_answered, said_ok, says_why, printed_end, prints_over}
+use Rattle.qe_cli.specs.Command.{Comes, HasSchemaFile, AnswersAll, SaysOk, SaysLayout, SaysWhy, line_of}
+use Rattle.qe_cli.specs.declared.End.TheVariants as end
+use Rattle.qe_cli.proofs.Complete.{accepts, rejects, no_fault}
+use Rattle.qe_cli.proofs.Ended.{all_answered, said_layout, said_ok, says_why, printed_end, prints_over}
 use Rattle.qe_cli.proofs.commands.offline.Goals as goal
 
 pub returns-clause-ends : goal.returns-clause-ends
@@ -61,8 +62,24 @@ returns-clause-validated g c = λ asks none.
     subst (λ l. SaysOk words files before l taken now) (sym c.print_end.ensures.input.0)
     (said_ok c.status.result c.print_end.result words files before left taken mid now rose c.status.ensures (printed_end c.print_end.result c.carry_out-end.result words files before left taken mid c.print_end.ensures.end c.carry_out-end.ensures.comes) c.print_end.ensures.prints asks none)
 
+pub returns-clause-laid : goal.returns-clause-laid
+returns-clause-laid g c = λ asks none.
+    let words = map string_bytes c.args.words.now in
+    let files = g.H.Host.files c.args.host.now in
+    let before = g.H.Source.left c.args.host.now in
+    let left = g.H.Source.left c.carry_out-end.new.host in
+    let taken = g.H.Sink.taken c.args.host.now in
+    let mid = g.H.Sink.taken c.carry_out-end.new.host in
+    let now = g.H.Sink.taken c.print_end.new.host in
+    let rose = Rose (g.H.Sink.write_faults c.carry_out-end.new.host) (g.H.Sink.write_faults c.print_end.new.host) in
+    subst (λ l. SaysLayout words files before l taken now) (sym c.print_end.ensures.input.0)
+    (said_layout c.status.result c.print_end.result words files before left taken mid now rose c.status.ensures (printed_end c.print_end.result c.carry_out-end.result words files before left taken mid c.print_end.ensures.end c.carry_out-end.ensures.comes) c.print_end.ensures.prints asks none)
+
 pub returns-clause-accepts : goal.returns-clause-accepts
-returns-clause-accepts g c = λ steady schema offer.
+returns-clause-accepts g c = λ steady.
+    let read : c.carry_out-end.result ≡ end.ReadFault → ⊥ = search rules in
+    let write : c.carry_out-end.result ≡ end.WriteFault → ⊥ = search rules in
+    λ schema offer.
     let words = map string_bytes c.args.words.now in
     let files = g.H.Host.files c.args.host.now in
     let before = g.H.Source.left c.args.host.now in
@@ -70,11 +87,14 @@ returns-clause-accepts g c = λ steady schema offer.
     let taken = g.H.Sink.taken c.args.host.now in
     let mid = g.H.Sink.taken c.carry_out-end.new.host in
     let has : HasSchemaFile words files = (offer.0, offer.1, offer.2, offer.3, offer.4, offer.5, offer.6) in
-    let sure : c.status.result ≡ 4 → ⊥ = search rules in
+    let sure : c.status.result ≡ 4 → ⊥ = no_fault c.status.result c.print_end.result c.carry_out-end.result c.status.ensures c.print_end.ensures.end (c.carry_out-end.ensures.fetch_steady steady has) read write in
     accepts c.status.result c.print_end.result words files before left taken mid schema c.status.ensures (printed_end c.print_end.result c.carry_out-end.result words files before left taken mid c.print_end.ensures.end c.carry_out-end.ensures.comes) sure offer
 
 pub returns-clause-refuses : goal.returns-clause-refuses
-returns-clause-refuses g c = λ steady why offer.
+returns-clause-refuses g c = λ steady.
+    let read : c.carry_out-end.result ≡ end.ReadFault → ⊥ = search rules in
+    let write : c.carry_out-end.result ≡ end.WriteFault → ⊥ = search rules in
+    λ why offer.
     let words = map string_bytes c.args.words.now in
     let files = g.H.Host.files c.args.host.now in
     let before = g.H.Source.left c.args.host.now in
@@ -82,5 +102,5 @@ returns-clause-refuses g c = λ steady why offer.
     let taken = g.H.Sink.taken c.args.host.now in
     let mid = g.H.Sink.taken c.carry_out-end.new.host in
     let has : HasSchemaFile words files = (offer.0, offer.1, offer.2, offer.3, offer.4, offer.5, offer.6) in
-    let sure : c.status.result ≡ 4 → ⊥ = search rules in
+    let sure : c.status.result ≡ 4 → ⊥ = no_fault c.status.result c.print_end.result c.carry_out-end.result c.status.ensures c.print_end.ensures.end (c.carry_out-end.ensures.fetch_steady steady has) read write in
     rejects c.status.result c.print_end.result words files before left taken mid why c.status.ensures (printed_end c.print_end.result c.carry_out-end.result words files before left taken mid c.print_end.ensures.end c.carry_out-end.ensures.comes) sure offer

@@ -7,5 +7,5 @@ returns-in_default-clause-ends g c = run_short c.args.schema.now (g.H.Source.lef
 
 pub returns-clause-ends : goal.returns-clause-ends
 returns-clause-ends g c =
-    run_ended c.from.result c.take_input-lines.result c.args.schema.now c.in-Ok.tables (tables_of c.take_input-lines.new.tables) c.id_column.result (g.H.Source.left c.args.host.now) (g.H.Source.left c.take_input-lines.new.host) (g.H.Sink.taken c.args.host.now)
-    (g.H.Sink.taken c.take_input-lines.new.host) c.in-Ok.ensures c.from.ensures c.take_input-lines.ensures.ends
+    run_ended c.from.result c.take_input-lines.result c.args.schema.now c.in-Ok.tables (tables_of c.take_input-lines.new.tables) (g.H.Source.left c.args.host.now) (g.H.Source.left c.take_input-lines.new.host) (g.H.Sink.taken c.args.host.now)
+    (g.H.Sink.taken c.take_input-lines.new.host) c.in-Ok.ensures.empty c.from.ensures c.take_input-lines.ensures.ends

@@ -1,6 +1,6 @@
 use Rattle.std.proofs.Common.{◌≡◌, ◌++◌, drop, map}
 use Rattle.std.specs.List.{enumerate_from}
-use Rattle.qe_tables.specs.Put.{value_of}
+use Rattle.qe_plain.specs.Filled.{value_of}
 use Rattle.qe_ops.proofs.fill.fill.Given as goal
 
 -- the columns filled so far, and those that are left

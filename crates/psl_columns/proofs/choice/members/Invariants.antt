@@ -1,0 +1,8 @@
+use Rattle.std.proofs.Common.{◌≡◌, ◌++◌, map, drop}
+use Rattle.std.specs.List.{filter_map}
+use Rattle.psl_rules.specs.Parts.{member_of}
+use Rattle.psl_columns.proofs.choice.members.Given as goal
+
+abbrev pub invariant-loop-entry : goal.invariant-loop-entry
+invariant-loop-entry l =
+    l.texts ++ map (λ member. member.name.text) (filter_map member_of (drop l.entry-index l.entry-items)) ≡ map (λ member. member.name.text) (filter_map member_of l.entry-items)

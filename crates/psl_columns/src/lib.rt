@@ -1,0 +1,15 @@
+//! Enums, and the columns, keys and indexes of models: their values, from the tree of a schema text.
+#![tactic(auto)]
+
+mod choice;
+mod column;
+mod fill;
+mod key;
+mod names;
+#[cfg(test)]
+mod tests;
+
+pub use choice::choices;
+pub use column::{columns, kind};
+pub use key::{column_numbers, indexes, keys};
+pub use names::{as_number, column_names, is_column, number_among};

@@ -1,0 +1,18 @@
+//! Groups of some items.
+use crate::grouped;
+use std::test::Fail;
+
+#[test]
+fn in_order(rt: HostRuntime) -> Result<(), Fail> {
+    let items = [("a", 1_u8), ("b", 2), ("a", 3)];
+    let groups = grouped(rt.alloc(), &items)?;
+    let rows: [(&str, &[u8]); 3] = [("a", &[1, 3]), ("b", &[2]), ("c", &[])];
+    for (key, want) in rows {
+        let found = match groups.get(key) {
+            Some(group) => group.as_slice(),
+            None => &[],
+        };
+        assert_eq!(rt; found, want, "at {key}");
+    }
+    Ok(())
+}

@@ -1,7 +1,0 @@
-use Rattle.psl_relations.proofs.Rounds.{turn}
-use Rattle.psl_relations.proofs.updates.follow.Goals as goal
-
-pub loop-step-preserved : goal.loop-step-preserved
-loop-step-preserved c = λ name.
-    turn c.args.steps.now c.loop-step.step-index c.step-item.result c.loop-step.reached.keys c.insert.new.self.keys c.to.result name _
-    c.loop-step-test.true c.step-item.is c.to.ensures c.in_ok-insert.ensures.keys (c.loop-step.invariant name)

@@ -1,0 +1,6 @@
+use Rattle.std.proofs.Common.{rules}
+use Rattle.psl_schema.proofs.checking.schema.Goals as goal
+
+-- the tree that the schema is the value of
+pub new-requires : goal.new-requires
+new-requires c = (c.args.tree.now, c.requires, search rules)

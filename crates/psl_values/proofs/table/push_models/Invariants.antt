@@ -1,0 +1,7 @@
+use Rattle.std.proofs.Common.{◌≡◌, ◌++◌, map, drop}
+use Rattle.qe_schema.specs.SchemaOf.{table_of}
+use Rattle.psl_values.proofs.table.push_models.Given as goal
+
+abbrev pub invariant-loop-model : goal.invariant-loop-model
+invariant-loop-model l =
+    l.tables ++ map (table_of l.numbered) (map (λ model. model.now) (drop l.model-index l.models)) ≡ l.fn.tables ++ map (table_of l.numbered) (map (λ model. model.now) l.models)

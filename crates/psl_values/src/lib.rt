@@ -1,0 +1,14 @@
+//! The relations, links, fields and tables that an accepted schema text stands for.
+#![tactic(auto)]
+
+mod field;
+mod link;
+mod numbers;
+mod relation;
+mod table;
+#[cfg(test)]
+mod tests;
+
+pub use link::links;
+pub use relation::relations;
+pub use table::tables;

@@ -1,0 +1,81 @@
+//! The numbers of tables.
+ghost use Rattle.std.specs.Prelude.{◌≡◌, ◌+◌, IfOk, map, length};
+ghost use Rattle.psl_rules.specs.Parts.{models};
+ghost use Rattle.qe_schema.specs.SchemaOf as spec;
+
+use psl_columns::{as_number, number_among};
+use psl_parts::{Types, blocks_of};
+use psl_text::{Block, Word};
+use qe_base::TableId;
+use qe_text::{Memory, Text};
+use std::alloc::Global;
+use std::marker::Model;
+
+/// A tree, with the names of its models to number them.
+#[derive(Drop)]
+pub struct Models<'t, 'a> {
+    types: &'t Types<'a>,
+    names: Vec<&'a str>,
+}
+
+impl<'t, 'a> Model for Models<'t, 'a> {
+    ghost use Rattle.std.specs.Prelude.{◌≡◌, map};
+    ghost use Rattle.psl_text.specs.declared.tree.Tree.{Tree};
+    ghost use Rattle.psl_rules.specs.Parts.{models};
+    ghost use Rattle.qe_schema.specs.SchemaOf.{block_name};
+    ghost use Rattle.psl_text.specs.contracts.tree.Term as term;
+    ghost use Rattle.std.specs.Coded.{codes};
+
+    ghost Value = { Tree };
+
+    ghost coded = { Prim.hlevel (codes, term.the_row.coded) };
+
+    ghost view = { λ m. m.types.now };
+
+    ghost invariant = { λ m. map (λ name. name.now) m.names.items ≡ map block_name (models m.types.now) };
+}
+
+fn block_names<'a>(alloc: Global, blocks: &[&'a Block]) -> Result<Vec<&'a str>, Memory>
+    ensures { IfOk result (λ names. map (λ name. name.now) names.items ≡ map spec.block_name (map (λ block. block.now) blocks.now)) }
+{
+    let mut names = Vec::new(alloc);
+    for block in blocks {
+        names.push(block.name.text.as_str())?;
+    }
+    Ok(names)
+}
+
+impl<'t, 'a> Models<'t, 'a> {
+    pub fn of(alloc: Global, types: &'t Types<'a>) -> Result<Models<'t, 'a>, Memory>
+        ensures { IfOk result (λ models. models ≡ types.now) }
+    {
+        let blocks = blocks_of(alloc, types.tree(), Word::Model)?;
+        let names = block_names(alloc, blocks.as_slice())?;
+        Ok(Models { types, names })
+    }
+
+    pub fn types(&self) -> &'t Types<'a>
+        ensures { result.now ≡ self.now }
+    {
+        self.types
+    }
+
+    /// The number of the model of this name, and 0 where there is none.
+    pub fn number(&self, name: &Text) -> Result<TableId, Memory>
+        ensures { IfOk result (λ table. table ≡ record { 0 = spec.model_number self.now name.now }) }
+    {
+        Ok(TableId(number_among(self.names.as_slice(), name.as_str())?))
+    }
+
+    /// The number of a link table, which come behind the models.
+    pub fn link(&self, number: usize) -> Result<TableId, Memory>
+        ensures { IfOk result (λ table. table ≡ record { 0 = spec.link_number self.now number }) }
+    {
+        let before = self.names.len();
+        if number < 65_536 && before < 65_536 {
+            Ok(TableId(as_number(before + number)?))
+        } else {
+            Err(Memory)
+        }
+    }
+}

@@ -1,0 +1,6 @@
+pub mod Agreeing
+pub mod Chains
+pub mod Ids
+pub mod Named
+pub mod Relations
+pub mod Unique

@@ -1,0 +1,4 @@
+mod Parsed
+mod Forms
+mod Civil
+mod Digits

@@ -1,0 +1,9 @@
+use Rattle.std.proofs.Common.{◌≡◌, ◌++◌, take}
+use Rattle.std.specs.Prelude.{string_bytes}
+use Rattle.std.specs.List.{flat_map}
+use Rattle.qe_view.specs.LayoutText.{table_text}
+use Rattle.qe_view.proofs.statements.push_tables.Given as goal
+
+-- the tables so far
+abbrev pub invariant-loop-table : goal.invariant-loop-table
+invariant-loop-table l = string_bytes l.text ≡ string_bytes l.initial.text ++ flat_map table_text (take l.table-index l.tables)
