@@ -1,0 +1,3 @@
+pub mod Foot
+pub mod Parts
+pub mod Sees

@@ -1,0 +1,10 @@
+pub mod Examples
+pub mod Fits
+pub mod Look
+pub mod Order
+pub mod Page
+pub mod Part
+pub mod Read
+pub mod Related
+pub mod Shape
+pub mod Truth

@@ -1,0 +1,23 @@
+-- One layer of a tree of writes: what a fold makes of it, in the words of its step.
+use Rattle.std.proofs.Common.{◌≡◌, map}
+use Rattle.qe_base.specs.declared.answer.Outside.{Outside}
+use Rattle.qe_base.specs.declared.write.Create.{Create, roll-Create}
+use Rattle.qe_base.specs.declared.write.Update.{Update, roll-Update}
+use Rattle.qe_base.specs.declared.write.Nested.{Nested}
+use Rattle.qe_base.specs.declared.write.Step.{Step}
+use Rattle.qe_base.specs.declared.write.Step.TheOpen.{Create-F, Update-F}
+use Rattle.qe_base.specs.declared.write.Step.TheFolds.{fold-Step, fold-Nested, fold-roll-Create, fold-roll-Update}
+use Rattle.qe_schema.specs.Schemas.{Schema}
+use Rattle.qe_writing.specs.Write.{Run, Creates, FieldRuns, Updates, step_step, create_step, nested_step, update_step, create_of, update_of}
+
+abbrev pub nested_of : Schema → Outside → Nested → FieldRuns
+nested_of schema outside = fold-Nested Run Creates FieldRuns Updates (step_step schema) (create_step schema outside) nested_step (update_step schema outside)
+
+abbrev pub step_of : Schema → Outside → Step → Run
+step_of schema outside = fold-Step Run Creates FieldRuns Updates (step_step schema) (create_step schema outside) nested_step (update_step schema outside)
+
+pub create_roll : (schema : Schema) (outside : Outside) (c : Create-F Step Create Nested Update) → create_of schema outside (roll-Create c) ≡ create_step schema outside (record { values = c.values; nested = map (nested_of schema outside) c.nested })
+create_roll schema outside c = fold-roll-Create Run Creates FieldRuns Updates (step_step schema) (create_step schema outside) nested_step (update_step schema outside) c
+
+pub update_roll : (schema : Schema) (outside : Outside) (u : Update-F Step Create Nested Update) → update_of schema outside (roll-Update u) ≡ update_step schema outside (record { edits = u.edits; nested = map (nested_of schema outside) u.nested })
+update_roll schema outside u = fold-roll-Update Run Creates FieldRuns Updates (step_step schema) (create_step schema outside) nested_step (update_step schema outside) u

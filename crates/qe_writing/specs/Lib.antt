@@ -1,0 +1,13 @@
+pub mod Batch
+pub mod Change
+pub mod Delete
+pub mod Doomed
+pub mod Edits
+pub mod Fill
+pub mod Finding
+pub mod Given
+pub mod Plain
+pub mod Samples
+pub mod State
+pub mod Ways
+pub mod Write

@@ -1,0 +1,9 @@
+//! Definitions: what operations make of the tables.
+#![tactic(auto)]
+
+mod examples;
+
+pub use examples::{
+    changes_along_a_chain, connect_or_create_twice, counters, delete_of_the_row_being_updated,
+    deletes_in_a_tree, edits_of_numbers, identifiers_in_order, set_on_a_required_relation,
+};
