@@ -1,10 +1,11 @@
 //! Ids and uniques.
-ghost use Rattle.std.specs.Prelude.{◌≡◌, ◌++◌, ◌&&◌, IfOk, OnOk, map, filter, [], ◌∷◌, None, unwrap_or, option_copied, option_to_list, bytes_eq};
-ghost use Rattle.std.specs.List.{list_any};
-ghost use Rattle.psl_rules.specs.Parts.{first, fields, field_of, is_among, repeats};
+ghost use Rattle.std.specs.Prelude.{◌≡◌, ◌++◌, ◌&&◌, IfOk, OnOk, map, filter, [], ◌∷◌, None, unwrap_or, option_copied, option_to_list};
+ghost use Rattle.psl_rules.specs.Parts.{first, fields, field_of};
 ghost use Rattle.psl_rules.specs.Names.{is_optional};
 ghost use Rattle.psl_rules.specs.Keys as spec;
 
+use crate::lookup::FieldSet;
+use crate::repeated::first_same_fields;
 use psl_parts::{
     blocks_of, earlier, first_repeat, given_names, given_text, has_attribute, is_among, is_called,
     noted, push_given_names,
@@ -301,46 +302,6 @@ pub fn keys_of(alloc: Global, model: &Block) -> Result<Vec<Key>, Memory>
     Ok(keys)
 }
 
-fn is_one_of(name: &Text, names: &[Text]) -> bool
-    ensures { result ≡ is_among name.now names.now }
-{
-    names.iter().any(|other| name.is_same(other.as_str()))
-}
-
-fn is_within(names: &[Text], others: &[Text]) -> bool
-    ensures { result ≡ spec.is_within names.now others.now }
-{
-    names.iter().all(|name| is_one_of(name, others))
-}
-
-/// Whether both have the same fields, in any order.
-fn has_same_fields(one: &Key, other: &Key) -> bool
-    ensures { result ≡ spec.same_fields one.now other.now }
-{
-    let fields = one.fields.as_slice();
-    let others = other.fields.as_slice();
-    is_within(fields, others) && is_within(others, fields)
-}
-
-/// Whether one of the keys has the same fields.
-fn is_repeated(key: &Key, before: &[Key]) -> bool
-    ensures { result ≡ list_any (spec.same_fields key.now) before.now }
-{
-    before.iter().any(|other| has_same_fields(key, other))
-}
-
-/// The first place of a key with the same fields as an earlier one.
-fn first_same_fields(keys: &[Key]) -> Option<usize>
-    ensures { result ≡ first (map spec.key_place (repeats spec.same_fields keys.now)) }
-{
-    let mut found = None;
-    for number in 0..keys.len() {
-        let key = &keys[number];
-        found = noted(found, is_repeated(key, &keys[..number]), key.name.at);
-    }
-    found
-}
-
 /// The names of the keys of several fields, in text order.
 fn long_names(alloc: Global, keys: &[Key]) -> Result<Vec<&Name>, Memory>
     ensures { IfOk result (λ names. map (λ name. name.now) names.items ≡ map (λ key. key.name) (filter spec.is_long keys.now)) }
@@ -354,39 +315,24 @@ fn long_names(alloc: Global, keys: &[Key]) -> Result<Vec<&Name>, Memory>
     Ok(names)
 }
 
-fn names_entry(entry: &Entry, name: &Text) -> bool
-    ensures { result ≡ list_any (λ field. bytes_eq name.now field.name.text) (option_to_list (field_of entry.now)) }
-{
-    match entry {
-        Entry::Setting { .. } => false,
-        Entry::Member { .. } => false,
-        Entry::Field { name: field, .. } => name.is_same(field.text.as_str()),
-        Entry::Block { .. } => false,
-    }
-}
-
-/// Whether a field of the model has this name.
-fn names_field(model: &Block, name: &Text) -> bool
-    ensures { result ≡ spec.names_field model.now name.now }
-{
-    for entry in model.entries.as_slice() {
-        if names_entry(entry, name) {
-            return true;
-        }
-    }
-    false
-}
-
-/// The first place of a key of several fields that is named as a field of the model.
-fn first_named_as_field(model: &Block, keys: &[Key]) -> Option<usize>
-    ensures { result ≡ first (map spec.key_place (filter (λ key. spec.is_long key && spec.names_field model.now key.name.text) keys.now)) }
+/// The first place of a key of several fields that is named as one of these fields.
+fn first_named_among(fields: &FieldSet, keys: &[Key]) -> Option<usize>
+    ensures { result ≡ first (map spec.key_place (filter (λ key. spec.is_long key && spec.names_field fields.now key.name.text) keys.now)) }
 {
     let mut found = None;
     for key in keys {
-        let is_named = key.fields.len() >= 2 && names_field(model, &key.name.text);
+        let is_named = key.fields.len() >= 2 && fields.has(&key.name.text);
         found = noted(found, is_named, key.name.at);
     }
     found
+}
+
+/// The first place of a key of several fields that is named as a field of the model.
+fn first_named_as_field(alloc: Global, model: &Block, keys: &[Key]) -> Result<Option<usize>, Memory>
+    ensures { IfOk result (λ found. found ≡ first (map spec.key_place (filter (λ key. spec.is_long key && spec.names_field model.now key.name.text) keys.now))) }
+{
+    let fields = FieldSet::of(alloc, model)?;
+    Ok(first_named_among(&fields, keys))
 }
 
 /// The first place in a model that breaks the rule on its keys.
@@ -397,8 +343,9 @@ fn broken_key(alloc: Global, model: &Block) -> Result<Option<usize>, Memory>
     let keys = keys.as_slice();
     let names = long_names(alloc, keys)?;
     let repeated = first_repeat(alloc, names.as_slice())?;
-    let named = first_named_as_field(model, keys);
-    Ok(earlier(earlier(first_same_fields(keys), repeated), named))
+    let named = first_named_as_field(alloc, model, keys)?;
+    let same = first_same_fields(alloc, keys)?;
+    Ok(earlier(earlier(same, repeated), named))
 }
 
 /// No two keys of a model have the same fields, and the names of longer keys differ from each other and

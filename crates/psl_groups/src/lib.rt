@@ -1,7 +1,7 @@
-//! Items in groups, to look up by what those of a group have in common.
+//! Items in groups, to look up by what those of a group have in common, and the places of keys.
 #![tactic(auto)]
 
-ghost use Rattle.std.specs.Prelude.{◌≡◌, IfOk, map, filter, []};
+ghost use Rattle.std.specs.Prelude.{◌≡◌, IfOk, map, filter, position, []};
 ghost use Rattle.std.specs.Option.{option_map_or};
 ghost use Rattle.std.specs.HashMap.{get};
 
@@ -27,4 +27,21 @@ pub fn grouped<K: Eq + Hash + Copy + Drop, V: Copy + Drop>(
         groups.insert(*key, group)?;
     }
     Ok(groups)
+}
+
+/// The first place of each key, from 0.
+#[tactic(auto, using(crate::proofs::Placed::all_placed))]
+pub fn first_places<K: Eq + Hash + Copy + Drop>(
+    alloc: Global,
+    keys: &[K],
+) -> Result<HashMap<K, usize>, Memory>
+    ensures { IfOk result (λ places. (key : K) → get K.eq places key ≡ position (K.eq key) keys.now) }
+{
+    let mut places = HashMap::new(alloc);
+    let mut place = keys.len();
+    'keys: while place > 0 {
+        place -= 1;
+        places.insert(keys[place], place)?;
+    }
+    Ok(places)
 }

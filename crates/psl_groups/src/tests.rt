@@ -1,5 +1,5 @@
-//! Groups of some items.
-use crate::grouped;
+//! Groups of some items, and places of some keys.
+use crate::{first_places, grouped};
 use std::test::Fail;
 
 #[test]
@@ -13,6 +13,16 @@ fn in_order(rt: HostRuntime) -> Result<(), Fail> {
             None => &[],
         };
         assert_eq!(rt; found, want, "at {key}");
+    }
+    Ok(())
+}
+
+#[test]
+fn the_first_of_equal_keys(rt: HostRuntime) -> Result<(), Fail> {
+    let places = first_places(rt.alloc(), &["a", "b", "a"])?;
+    let rows = [("a", Some(0_usize)), ("b", Some(1)), ("c", None)];
+    for (key, want) in rows {
+        assert_eq!(rt; places.get(key).copied(), want, "at {key}");
     }
     Ok(())
 }

@@ -1,3 +1,4 @@
 pub mod Back
+pub mod Called
 pub mod Referred
 pub mod Walks

@@ -1,21 +1,23 @@
 //! The foreign keys of relations, and what happens to their rows.
 ghost use Rattle.std.specs.Prelude.{◌≡◌, IfOk, map, filter, option_copied};
-ghost use Rattle.std.specs.List.{list_any};
+ghost use Rattle.std.specs.List.{list_any, list_all};
 ghost use Rattle.psl_rules.specs.Parts.{first, failing, given_name, is_among};
+ghost use Rattle.psl_rules.specs.Parts as parts;
 ghost use Rattle.psl_rules.specs.Attributes.{name_columns};
 ghost use Rattle.psl_rules.specs.Keys.{is_within, are_same_set, is_key_of};
 ghost use Rattle.psl_rules.specs.Relations.{has_fields, is_list, end_place, pair_place};
 ghost use Rattle.psl_rules.specs.Foreign as spec;
 
+use crate::models::Models;
 use crate::relations::{End, Pair, ends, pairs, partners};
 use crate::sides::Sides;
 use psl_fields::{id_names, keys_of};
 use psl_parts::{
-    Types, are_optional, are_required, blocks_of, earlier, fields_named, given, have_same_types,
-    is_among, name_columns, name_in, noted,
+    Types, are_optional, are_required, earlier, fields_named, given, have_same_types, is_among,
+    name_columns, name_in, noted,
 };
 use psl_rules::Key;
-use psl_text::{Attribute, Block, Tree, Word};
+use psl_text::{Attribute, Block};
 use qe_text::{Memory, Text};
 use std::alloc::Global;
 
@@ -92,25 +94,32 @@ fn has_types_of(alloc: Global, end: &End, model: &Block) -> Result<bool, Memory>
     Ok(have_same_types(fields.as_slice(), others.as_slice()))
 }
 
-/// Whether the fields of the foreign key have the types of those that they refer to.
-fn has_same_types(alloc: Global, end: &End, models: &[&Block]) -> Result<bool, Memory>
-    ensures { IfOk result (λ has. has ≡ spec.has_types_among (map (λ model. model.now) models.now) end.now) }
+/// Whether the fields of the foreign key have the types of those of each of these models.
+fn has_types_of_all(alloc: Global, end: &End, models: &[&Block]) -> Result<bool, Memory>
+    ensures { IfOk result (λ has. has ≡ list_all (spec.has_types_of end.now) (map (λ model. model.now) models.now)) }
 {
     for model in models {
-        if end.leads_to(model) && !has_types_of(alloc, end, model)? {
+        if !has_types_of(alloc, end, model)? {
             return Ok(false);
         }
     }
     Ok(true)
 }
 
+/// Whether the fields of the foreign key have the types of those that they refer to.
+fn has_same_types<'a>(alloc: Global, end: &End<'a>, models: &Models<'a>) -> Result<bool, Memory>
+    ensures { IfOk result (λ has. has ≡ spec.has_types_among (parts.models models.now) end.now) }
+{
+    has_types_of_all(alloc, end, models.led_to(end))
+}
+
 /// The first holder of a key of other types.
-fn first_of_other_types(
+fn first_of_other_types<'a>(
     alloc: Global,
-    models: &[&Block],
-    held: &[&End],
+    models: &Models<'a>,
+    held: &[&End<'a>],
 ) -> Result<Option<usize>, Memory>
-    ensures { IfOk result (λ found. found ≡ first (failing (spec.has_types_among (map (λ model. model.now) models.now)) end_place (map (λ end. end.now) held.now))) }
+    ensures { IfOk result (λ found. found ≡ first (failing (spec.has_types_among (parts.models models.now)) end_place (map (λ end. end.now) held.now))) }
 {
     let mut found = None;
     for end in held {
@@ -121,14 +130,14 @@ fn first_of_other_types(
 }
 
 /// A field and the one that it refers to have the same type. Broken at the name of the field with
-/// `fields`. For each relation this looks at all models.
+/// `fields`.
 pub fn references_have_the_type(alloc: Global, types: &Types) -> Result<Option<usize>, Memory>
     ensures { IfOk result (λ found. found ≡ first (spec.references_have_the_type types.now)) }
 {
-    let models = blocks_of(alloc, types.tree(), Word::Model)?;
+    let models = Models::of(alloc, types)?;
     let ends = ends(alloc, types)?;
     let held = holders(alloc, ends.as_slice())?;
-    first_of_other_types(alloc, models.as_slice(), held.as_slice())
+    first_of_other_types(alloc, &models, held.as_slice())
 }
 
 /// Whether the relation and all fields of its foreign key are optional, or all are required.
@@ -164,21 +173,38 @@ pub fn foreign_keys_are_whole(alloc: Global, types: &Types) -> Result<Option<usi
     first_not_whole(alloc, held.as_slice())
 }
 
-/// Whether these are names of columns of each model that the end leads to.
-fn are_columns_of_targets(types: &Types, models: &[&Block], end: &End, names: &[&str]) -> bool
-    ensures { result ≡ spec.of_target (map (λ model. model.now) models.now) end.now (λ model. name_columns types.now model (map (λ name. name.now) names.now)) }
+/// Whether these are names of columns of each of these models.
+fn are_columns_of_all(types: &Types, models: &[&Block], names: &[&str]) -> bool
+    ensures { result ≡ list_all (λ model. name_columns types.now model (map (λ name. name.now) names.now)) (map (λ model. model.now) models.now) }
 {
     for model in models {
-        if end.leads_to(model) && !name_columns(types, model, names) {
+        if !name_columns(types, model, names) {
             return false;
         }
     }
     true
 }
 
+/// Whether these are names of columns of each model that the end leads to.
+fn are_columns_of_targets<'a>(
+    types: &Types<'a>,
+    models: &Models<'a>,
+    end: &End<'a>,
+    names: &[&str],
+) -> bool
+    ensures { result ≡ spec.of_target (parts.models models.now) end.now (λ model. name_columns types.now model (map (λ name. name.now) names.now)) }
+{
+    are_columns_of_all(types, models.led_to(end), names)
+}
+
 /// Whether the foreign key and what it refers to are columns, equally many.
-fn names_columns(alloc: Global, types: &Types, models: &[&Block], end: &End) -> Result<bool, Memory>
-    ensures { IfOk result (λ names. names ≡ spec.names_columns types.now (map (λ model. model.now) models.now) end.now) }
+fn names_columns<'a>(
+    alloc: Global,
+    types: &Types<'a>,
+    models: &Models<'a>,
+    end: &End<'a>,
+) -> Result<bool, Memory>
+    ensures { IfOk result (λ names. names ≡ spec.names_columns types.now (parts.models models.now) end.now) }
 {
     let own = end.own_names(alloc)?;
     let other = end.other_names(alloc)?;
@@ -188,13 +214,13 @@ fn names_columns(alloc: Global, types: &Types, models: &[&Block], end: &End) -> 
 }
 
 /// The first holder of a key that isn't of columns.
-fn first_without_columns(
+fn first_without_columns<'a>(
     alloc: Global,
-    types: &Types,
-    models: &[&Block],
-    held: &[&End],
+    types: &Types<'a>,
+    models: &Models<'a>,
+    held: &[&End<'a>],
 ) -> Result<Option<usize>, Memory>
-    ensures { IfOk result (λ found. found ≡ first (failing (spec.names_columns types.now (map (λ model. model.now) models.now)) end_place (map (λ end. end.now) held.now))) }
+    ensures { IfOk result (λ found. found ≡ first (failing (spec.names_columns types.now (parts.models models.now)) end_place (map (λ end. end.now) held.now))) }
 {
     let mut found = None;
     for end in held {
@@ -205,14 +231,14 @@ fn first_without_columns(
 }
 
 /// `fields` and `references` name columns, equally many, of the own and of the other model. Broken at
-/// the name of the field with `fields`. For each relation this looks at all models.
+/// the name of the field with `fields`.
 pub fn references_are_columns(alloc: Global, types: &Types) -> Result<Option<usize>, Memory>
     ensures { IfOk result (λ found. found ≡ first (spec.references_are_columns types.now)) }
 {
-    let models = blocks_of(alloc, types.tree(), Word::Model)?;
+    let models = Models::of(alloc, types)?;
     let ends = ends(alloc, types)?;
     let held = holders(alloc, ends.as_slice())?;
-    first_without_columns(alloc, types, models.as_slice(), held.as_slice())
+    first_without_columns(alloc, types, &models, held.as_slice())
 }
 
 fn is_one_of(name: &str, fields: &[Text]) -> bool
@@ -268,37 +294,32 @@ fn are_required_key(alloc: Global, model: &Block, names: &[&str]) -> Result<bool
     Ok(is_key && are_required(fields.as_slice()))
 }
 
-/// Whether these are a key of each model that the end leads to, and required.
-fn are_key_of_targets(
-    alloc: Global,
-    models: &[&Block],
-    end: &End,
-    names: &[&str],
-) -> Result<bool, Memory>
-    ensures { IfOk result (λ are. are ≡ spec.of_target (map (λ model. model.now) models.now) end.now (λ model. spec.are_required_key model (map (λ name. name.now) names.now))) }
+/// Whether these are a key of each of these models, and required.
+fn are_key_of_all(alloc: Global, models: &[&Block], names: &[&str]) -> Result<bool, Memory>
+    ensures { IfOk result (λ are. are ≡ list_all (λ model. spec.are_required_key model (map (λ name. name.now) names.now)) (map (λ model. model.now) models.now)) }
 {
     for model in models {
-        if end.leads_to(model) && !are_required_key(alloc, model, names)? {
+        if !are_required_key(alloc, model, names)? {
             return Ok(false);
         }
     }
     Ok(true)
 }
 
-fn refers_to_key(alloc: Global, models: &[&Block], end: &End) -> Result<bool, Memory>
-    ensures { IfOk result (λ refers. refers ≡ spec.refers_to_key (map (λ model. model.now) models.now) end.now) }
+fn refers_to_key<'a>(alloc: Global, models: &Models<'a>, end: &End<'a>) -> Result<bool, Memory>
+    ensures { IfOk result (λ refers. refers ≡ spec.refers_to_key (parts.models models.now) end.now) }
 {
     let names = end.other_names(alloc)?;
-    are_key_of_targets(alloc, models, end, names.as_slice())
+    are_key_of_all(alloc, models.led_to(end), names.as_slice())
 }
 
 /// The first holder that refers to no key of required fields.
-fn first_without_key(
+fn first_without_key<'a>(
     alloc: Global,
-    models: &[&Block],
-    held: &[&End],
+    models: &Models<'a>,
+    held: &[&End<'a>],
 ) -> Result<Option<usize>, Memory>
-    ensures { IfOk result (λ found. found ≡ first (failing (spec.refers_to_key (map (λ model. model.now) models.now)) end_place (map (λ end. end.now) held.now))) }
+    ensures { IfOk result (λ found. found ≡ first (failing (spec.refers_to_key (parts.models models.now)) end_place (map (λ end. end.now) held.now))) }
 {
     let mut found = None;
     for end in held {
@@ -308,15 +329,14 @@ fn first_without_key(
     Ok(found)
 }
 
-/// What is referred to is a key of required fields. Broken at the name of the field with `fields`. For
-/// each relation this looks at all models.
+/// What is referred to is a key of required fields. Broken at the name of the field with `fields`.
 pub fn references_are_keys(alloc: Global, types: &Types) -> Result<Option<usize>, Memory>
     ensures { IfOk result (λ found. found ≡ first (spec.references_are_keys types.now)) }
 {
-    let models = blocks_of(alloc, types.tree(), Word::Model)?;
+    let models = Models::of(alloc, types)?;
     let ends = ends(alloc, types)?;
     let held = holders(alloc, ends.as_slice())?;
-    first_without_key(alloc, models.as_slice(), held.as_slice())
+    first_without_key(alloc, &models, held.as_slice())
 }
 
 fn has_list(ends: &[&End]) -> bool

@@ -3,6 +3,7 @@
 
 mod foreign;
 mod limits;
+mod models;
 mod referred;
 mod relations;
 mod sides;

@@ -3,6 +3,7 @@
 
 mod field;
 mod link;
+mod numbered;
 mod numbers;
 mod relation;
 mod table;

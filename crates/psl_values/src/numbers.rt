@@ -1,14 +1,16 @@
 //! The numbers of tables.
-ghost use Rattle.std.specs.Prelude.{◌≡◌, ◌+◌, IfOk, map, length};
+ghost use Rattle.std.specs.Prelude.{◌≡◌, ◌+◌, IfOk, map, length, position, bytes_eq};
 ghost use Rattle.psl_rules.specs.Parts.{models};
 ghost use Rattle.qe_schema.specs.SchemaOf as spec;
 
-use psl_columns::{as_number, number_among};
+use psl_columns::as_number;
+use psl_groups::first_places;
 use psl_parts::{Types, blocks_of};
 use psl_text::{Block, Word};
 use qe_base::TableId;
 use qe_text::{Memory, Text};
 use std::alloc::Global;
+use std::collections::HashMap;
 use std::marker::Model;
 
 /// A tree, with the names of its models to number them.
@@ -16,12 +18,16 @@ use std::marker::Model;
 pub struct Models<'t, 'a> {
     types: &'t Types<'a>,
     names: Vec<&'a str>,
+    places: HashMap<&'a str, usize>,
 }
 
 impl<'t, 'a> Model for Models<'t, 'a> {
-    ghost use Rattle.std.specs.Prelude.{◌≡◌, map};
+    ghost use Rattle.std.specs.Prelude.{◌≡◌, map, position};
+    ghost use Rattle.std.specs.Borrow.{Bor};
+    ghost use Rattle.std.specs.HashMap.{get};
     ghost use Rattle.psl_text.specs.declared.tree.Tree.{Tree};
-    ghost use Rattle.psl_rules.specs.Parts.{models};
+    ghost use Rattle.psl_rules.specs.Parts.{Spelling, models};
+    ghost use Rattle.psl_relations.specs.Back.{same_text};
     ghost use Rattle.qe_schema.specs.SchemaOf.{block_name};
     ghost use Rattle.psl_text.specs.contracts.tree.Term as term;
     ghost use Rattle.std.specs.Coded.{codes};
@@ -32,7 +38,7 @@ impl<'t, 'a> Model for Models<'t, 'a> {
 
     ghost view = { λ m. m.types.now };
 
-    ghost invariant = { λ m. map (λ name. name.now) m.names.items ≡ map block_name (models m.types.now) };
+    ghost invariant = { λ m. (map (λ name. name.now) m.names.items ≡ map block_name (models m.types.now)) × ((name : Bor Spelling) → get same_text m.places name ≡ position (same_text name) m.names.items) };
 }
 
 fn block_names<'a>(alloc: Global, blocks: &[&'a Block]) -> Result<Vec<&'a str>, Memory>
@@ -51,7 +57,12 @@ impl<'t, 'a> Models<'t, 'a> {
     {
         let blocks = blocks_of(alloc, types.tree(), Word::Model)?;
         let names = block_names(alloc, blocks.as_slice())?;
-        Ok(Models { types, names })
+        let places = first_places(alloc, names.as_slice())?;
+        Ok(Models {
+            types,
+            names,
+            places,
+        })
     }
 
     pub fn types(&self) -> &'t Types<'a>
@@ -60,11 +71,21 @@ impl<'t, 'a> Models<'t, 'a> {
         self.types
     }
 
+    /// The place of the model of this name.
+    fn place(&self, name: &Text) -> Option<usize>
+        ensures { result ≡ position (bytes_eq name.now) (map spec.block_name (models self.now)) }
+    {
+        self.places.get(name.as_str()).copied()
+    }
+
     /// The number of the model of this name, and 0 where there is none.
     pub fn number(&self, name: &Text) -> Result<TableId, Memory>
         ensures { IfOk result (λ table. table ≡ record { 0 = spec.model_number self.now name.now }) }
     {
-        Ok(TableId(number_among(self.names.as_slice(), name.as_str())?))
+        match self.place(name) {
+            Some(at) => Ok(TableId(as_number(at)?)),
+            None => Ok(TableId(0)),
+        }
     }
 
     /// The number of a link table, which come behind the models.

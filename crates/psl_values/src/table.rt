@@ -2,8 +2,8 @@
 ghost use Rattle.std.specs.Prelude.{◌≡◌, ◌++◌, IfOk, OnOk, map};
 ghost use Rattle.qe_schema.specs.SchemaOf as spec;
 
-use crate::field::Numbered;
 use crate::link::{link_table, linked};
+use crate::numbered::Numbered;
 use crate::numbers::Models;
 use psl_columns::{columns, indexes, keys};
 use psl_parts::{Types, blocks_of};
@@ -13,7 +13,7 @@ use qe_base::Table;
 use qe_text::{Items, Memory, Text};
 use std::alloc::Global;
 
-fn table(alloc: Global, numbered: &Numbered, model: &Block) -> Result<Table, Memory>
+fn table<'a>(alloc: Global, numbered: &Numbered<'_, 'a>, model: &'a Block) -> Result<Table, Memory>
     ensures { IfOk result (λ table. table ≡ spec.table_of numbered.now model.now) }
 {
     let types = numbered.types();
@@ -29,11 +29,11 @@ fn table(alloc: Global, numbered: &Numbered, model: &Block) -> Result<Table, Mem
 }
 
 /// Appends the tables of models.
-fn push_models(
+fn push_models<'a>(
     alloc: Global,
     tables: &mut Items<Table>,
-    numbered: &Numbered,
-    models: &[&Block],
+    numbered: &Numbered<'_, 'a>,
+    models: &[&'a Block],
 ) -> Result<(), Memory>
     ensures { OnOk result (tables.new ≡ tables.old ++ map (spec.table_of numbered.now) (map (λ model. model.now) models.now)) }
 {
@@ -67,7 +67,7 @@ pub fn tables(alloc: Global, types: &Types) -> Result<Items<Table>, Memory>
     let held = holders(alloc, ends.as_slice())?;
     let pairs = pairs(alloc, ends.as_slice())?;
     let linked = linked(alloc, pairs.as_slice())?;
-    let numbered = Numbered::of(&models, held.as_slice(), linked.as_slice());
+    let numbered = Numbered::of(alloc, &models, held.as_slice(), linked.as_slice())?;
     let blocks = blocks_of(alloc, types.tree(), Word::Model)?;
     let mut tables = Items::new(alloc);
     push_models(alloc, &mut tables, &numbered, blocks.as_slice())?;

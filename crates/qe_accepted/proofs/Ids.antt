@@ -38,7 +38,7 @@ use Rattle.qe_accepted.proofs.Named.{any_of, in_filter, unique_field}
 
 -- ---- no field of the id is optional
 
-ids_are_in : In one_id rules
+pub ids_are_in : In one_id rules
 unfolding In
 ids_are_in = inr (inr (inr (inr (inr (inr (inr (inr (inr (inr (inr (inl refl)))))))))))
 
@@ -135,7 +135,7 @@ of_id tree accepted model is_in key among =
     of_entry tree accepted model is_in each.item each.member key each.part
 
 -- as many keys are made by `@id` as it stands
-same_counts : (entries : List Entry) → length (flat_map ids_in entries) ≡ length (flat_map (keys_called_in (codes "id")) entries)
+pub same_counts : (entries : List Entry) → length (flat_map ids_in entries) ≡ length (flat_map (keys_called_in (codes "id")) entries)
 same_counts [] = refl
 same_counts (one ∷ entries) =
     let front : length (ids_in one) ≡ length (keys_called_in (codes "id") one) = in_entry one in

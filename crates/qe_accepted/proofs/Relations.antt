@@ -67,11 +67,11 @@ columns_of_relation tree accepted holder target holds both =
     }
 
 -- what columns have, by their numbers and by their names
-map_twice : {A B C : Type 0} (f : B → C) (g : A → B) (xs : List A) → map f (map g xs) ≡ map (λ x. f (g x)) xs
+pub map_twice : {A B C : Type 0} (f : B → C) (g : A → B) (xs : List A) → map f (map g xs) ≡ map (λ x. f (g x)) xs
 map_twice f g [] = refl
 map_twice f g (x ∷ xs) = ap (λ ys. f (g x) ∷ ys) (map_twice f g xs)
 
-by_names : {A : Type 0} (what : Column → A) (tree : Tree) → IsAccepted tree → (model : Block) → In model (models tree) → (names : List Spelling)
+pub by_names : {A : Type 0} (what : Column → A) (tree : Tree) → IsAccepted tree → (model : Block) → In model (models tree) → (names : List Spelling)
     → map (λ column. option_map what (column_at (schema_of tree) (model_number tree model.name.text) column)) (column_numbers tree model names) ≡ of_names what tree model names
 by_names what tree accepted model is_in names =
     ap (λ o. map (λ column. option_map what (option_and_then (λ (found : Table). slice_get found.columns column) o)) (column_numbers tree model names)) (table_at_number tree accepted model is_in)

@@ -4,6 +4,7 @@ use Rattle.std.specs.Prelude.{ℕ, ℤ, pos, List, [], true, false, Option}
 use Rattle.std.specs.Ordering.{nat_cmp, int_cmp, on, then_cmp, as_partial_cmp, eq_by_cmp}
 use Rattle.std.specs.Cmp.Lexicographic.{slice_cmp}
 use Rattle.std.specs.declared.cmp.Ordering.{Ordering}
+use Rattle.qe_base.specs.declared.value.Row.{Row}
 use Rattle.qe_base.specs.declared.value.Value.{Value}
 use Rattle.qe_base.specs.declared.value.Value.TheVariants.{Null, Text, Bool, Int, Moment, Blob, Member}
 
@@ -48,3 +49,13 @@ value_partial_cmp = as_partial_cmp value_cmp
 
 abbrev pub value_eq : Value → Value → Prelude.Bool
 value_eq = eq_by_cmp value_cmp
+
+-- rows by the first values that differ
+abbrev pub row_cmp : Row → Row → Ordering
+row_cmp = on (λ row. row.values) (slice_cmp value_cmp)
+
+abbrev pub row_partial_cmp : Row → Row → Option Ordering
+row_partial_cmp = as_partial_cmp row_cmp
+
+abbrev pub row_eq : Row → Row → Prelude.Bool
+row_eq = eq_by_cmp row_cmp

@@ -2,8 +2,9 @@
 ghost use Rattle.std.specs.Prelude.{◌≡◌, IfOk};
 ghost use Rattle.std.proofs.Common.{rules};
 ghost use Rattle.std.specs.Cmp.Rules.{comparing};
-ghost use Rattle.qe_base.specs.Values.{rank, bytes_in, number_in, value_cmp, value_partial_cmp, value_eq};
-ghost use Rattle.qe_base.specs.ValueOrder.{value_cmp_total, value_eq_equivalence, value_partial_order, value_partial_equivalence};
+ghost use Rattle.std.specs.Cmp.Lexicographic.{slice_cmp};
+ghost use Rattle.qe_base.specs.Values.{rank, bytes_in, number_in, value_cmp, value_partial_cmp, value_eq, row_cmp, row_partial_cmp, row_eq};
+ghost use Rattle.qe_base.specs.ValueOrder.{value_cmp_total, value_eq_equivalence, value_partial_order, value_partial_equivalence, row_cmp_total, row_eq_equivalence, row_partial_order, row_partial_equivalence};
 
 use qe_text::{Bytes, Memory, Text};
 use sqlite_items::Items;
@@ -175,6 +176,51 @@ impl Row {
             values.push(value.copy(alloc)?)?;
         }
         Ok(Row { values })
+    }
+}
+
+fn compare<'x>(values: &'x [Value], others: &'x [Value]) -> Ordering
+    ensures { result ≡ slice_cmp value_cmp values.now others.now }
+{
+    Ord::cmp(&values, &others)
+}
+
+/// Rows go by the first values that differ.
+impl Ord for Row {
+    ghost cmp = { row_cmp };
+
+    ghost total = { row_cmp_total };
+
+    ghost matches_partial_cmp = { Prim.search (comparing, rules) };
+
+    ghost matches_eq = { Prim.search (comparing, rules) };
+
+    fn cmp(&self, other: &Row) -> Ordering {
+        compare(self.values.as_slice(), other.values.as_slice())
+    }
+}
+
+impl PartialOrd for Row {
+    ghost partial_cmp = { row_partial_cmp };
+
+    ghost laws = { row_partial_order };
+
+    fn partial_cmp(&self, other: &Row) -> Option<Ordering> {
+        Some(self.cmp(other))
+    }
+}
+
+impl Eq for Row {
+    ghost laws = { row_eq_equivalence };
+}
+
+impl PartialEq for Row {
+    ghost eq = { row_eq };
+
+    ghost laws = { row_partial_equivalence };
+
+    fn eq(&self, other: &Row) -> bool {
+        self.cmp(other) == Ordering::Equal
     }
 }
 

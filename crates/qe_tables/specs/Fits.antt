@@ -16,7 +16,8 @@ use Rattle.qe_schema.specs.Schemas.{Schema}
 use Rattle.qe_scalars.specs.Numbers.{is_small, is_big}
 use Rattle.qe_scalars.specs.Moments.{is_moment}
 use Rattle.qe_tables.specs.Columns.{Values, is_null, at_columns, holds, values_cmp}
-use Rattle.qe_tables.specs.Tables.{Tables, table_at, id_columns, id_of}
+use Rattle.qe_tables.specs.Pairs.{PairsAscend, both_values}
+use Rattle.qe_tables.specs.Tables.{Tables, table_at, is_model, is_link, id_columns, id_of}
 
 abbrev pub is_text : Kind → Prelude.Bool
 is_text kind.Text = true
@@ -150,9 +151,13 @@ is_within last (Member member) = true
 abbrev pub Counts : Table → ℤ → List Row → Type 0
 Counts table last rows = (list_all (λ row. list_all (is_within last) (at_number (counting table.columns (id_columns table)) row)) rows ≡ true) × (int_lt last (pos 0) ≡ false) × (counting table.columns (id_columns table) ≡ None → last ≡ pos 0)
 
--- The tables are such as the schema says.
+-- The tables are such as the schema says: models have rows and counters, and link tables pairs.
 pub record FitsSchema (schema : Schema) (tables : Tables) : Type 0 where
+  pub models : (table : ℕ) → is_model schema table ≡ false → tables.rows table ≡ []
   pub kinds : (table : ℕ) → list_all (λ row. fit_columns schema.choices (table_at schema table).columns row.values) (tables.rows table) ≡ true
   pub order : (table : ℕ) → Ascending (table_at schema table) (tables.rows table)
   pub keys : (table number : ℕ) (key : Key) → slice_get (table_at schema table).keys number ≡ Some key → KeyApart key.columns (tables.rows table)
   pub counters : (table : ℕ) → Counts (table_at schema table) (tables.last table) (tables.rows table)
+  pub links : (table : ℕ) → is_link schema table ≡ false → tables.pairs table ≡ []
+  pub pair_kinds : (table : ℕ) → list_all (λ pair. fit_columns schema.choices (table_at schema table).columns (both_values pair)) (tables.pairs table) ≡ true
+  pub pair_order : (table : ℕ) → PairsAscend (tables.pairs table)

@@ -1,4 +1,5 @@
 pub mod Columns
 pub mod Fits
+pub mod Pairs
 pub mod Put
 pub mod Tables

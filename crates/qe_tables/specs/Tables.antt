@@ -1,5 +1,5 @@
 -- The tables of a schema: rows, counters and pairs.
-use Rattle.std.specs.Prelude.{ℕ, ℤ, pos, List, [], ◌∷◌, Bool, true, false, Option, slice_get, unwrap_or, find, ◌==◌, if◌then◌else◌}
+use Rattle.std.specs.Prelude.{ℕ, ℤ, pos, List, [], ◌∷◌, Bool, true, false, not, Option, Some, None, slice_get, unwrap_or, find, ◌==◌, if◌then◌else◌}
 use Rattle.qe_base.specs.declared.value.Row.{Row}
 use Rattle.qe_base.specs.declared.value.Value.{Value}
 use Rattle.qe_base.specs.declared.schema.Key.{Key}
@@ -30,6 +30,25 @@ no_table = record { name = []; stored = []; link = false; columns = []; keys = [
 
 abbrev pub table_at : Schema → ℕ → Table
 table_at schema table = unwrap_or (slice_get schema.tables table) no_table
+
+abbrev pub is_model_table : Option Table → Bool
+is_model_table None = false
+is_model_table (Some table) = not table.link
+
+-- the schema has a model of this number
+abbrev pub is_model : Schema → ℕ → Bool
+is_model schema table = is_model_table (slice_get schema.tables table)
+
+abbrev pub is_link_table : Option Table → Bool
+is_link_table None = false
+is_link_table (Some table) = table.link
+
+-- the schema has a link table of this number
+abbrev pub is_link : Schema → ℕ → Bool
+is_link schema table = is_link_table (slice_get schema.tables table)
+
+abbrev pub with_pairs : ℕ → List (Value × Value) → Tables → Tables
+with_pairs table pairs tables = record tables { pairs = λ t. if t == table then pairs else tables.pairs t }
 
 abbrev pub first_columns : List Key → List ℕ
 first_columns [] = []

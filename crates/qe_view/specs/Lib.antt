@@ -1,2 +1,4 @@
+pub mod Attached
 pub mod LayoutText
 pub mod Layouts
+pub mod Versions

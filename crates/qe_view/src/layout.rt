@@ -49,6 +49,19 @@ fn foreign_keys(alloc: Global, relations: &[Relation]) -> Result<Items<ForeignKe
     Ok(keys)
 }
 
+fn copy_foreign_keys(alloc: Global, all: &[ForeignKey]) -> Result<Items<ForeignKey>, Memory>
+    ensures { IfOk result (λ keys. keys ≡ all.now) }
+{
+    let mut keys = Items::new(alloc);
+    for key in all {
+        keys.push(ForeignKey {
+            child: key.child,
+            columns: Items::from_slice(alloc, key.columns.as_slice())?,
+        })?;
+    }
+    Ok(keys)
+}
+
 impl Layout {
     /// The layout of a schema.
     pub fn of(alloc: Global, schema: &Schema) -> Result<Layout, Memory>
@@ -70,6 +83,27 @@ impl Layout {
         ensures { IsLayout self.now }
     {
         let _tables = &self.tables;
+    }
+
+    /// An equal layout.
+    pub fn copy(&self, alloc: Global) -> Result<Layout, Memory>
+        ensures { IfOk result (λ layout. layout ≡ self.now) }
+    {
+        let tables = copy_tables(alloc, self.tables.as_slice())?;
+        let choices = copy_choices(alloc, self.choices.as_slice())?;
+        let foreign_keys = copy_foreign_keys(alloc, self.foreign_keys.as_slice())?;
+        Ok(Layout {
+            tables,
+            choices,
+            foreign_keys,
+        })
+    }
+
+    /// The tables, link tables among them.
+    pub fn table_list(&self) -> &[Table]
+        ensures { result.now ≡ self.now.tables }
+    {
+        self.tables.as_slice()
     }
 
     /// How many tables there are, link tables among them.

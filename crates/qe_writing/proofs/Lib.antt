@@ -1,1 +1,4 @@
+pub mod FitLayers
+mod FitLiterals
 pub mod Layers
+pub mod Models

@@ -1,8 +1,5 @@
 -- Changing a row, with all that follows from it.
-use Rattle.std.specs.Prelude.{ℕ, zero, suc, ◌+◌, Bool, true, false, ◌&&◌, not, List, [], ◌∷◌, ◌++◌, map, filter, length, Option, Some, None, Result, Ok, Err, if◌then◌else◌, ◌==◌}
-use Rattle.std.specs.Ordering.{is_lt, is_gt, then_cmp, on}
-use Rattle.std.specs.declared.cmp.Ordering.{Ordering}
-use Rattle.qe_base.specs.Values.{value_cmp}
+use Rattle.std.specs.Prelude.{ℕ, zero, suc, ◌+◌, Bool, true, false, ◌&&◌, not, List, [], ◌∷◌, map, filter, length, Option, Some, None, Result, Ok, Err, if◌then◌else◌, ◌==◌}
 use Rattle.qe_base.specs.declared.value.Row.{Row}
 use Rattle.qe_base.specs.declared.value.Value.{Value}
 use Rattle.qe_base.specs.declared.schema.Action.{Action}
@@ -13,6 +10,7 @@ use Rattle.qe_base.specs.declared.answer.Rule.{Rule}
 use Rattle.qe_base.specs.declared.answer.Rule.TheVariants as rule
 use Rattle.qe_schema.specs.Schemas.{Schema, link_of}
 use Rattle.qe_tables.specs.Columns.{Values, at_columns, are_same, holds}
+use Rattle.qe_tables.specs.Pairs.{with_pair}
 use Rattle.qe_tables.specs.Put.{put_beside}
 use Rattle.qe_tables.specs.Tables.{table_at, id_of}
 use Rattle.qe_writing.specs.State.{State, ◌>>=◌, with_tables, moved, row_with_id, row_followed, follow_all, unfollow}
@@ -20,13 +18,6 @@ use Rattle.qe_writing.specs.Delete.{nulls, relation_id}
 use Rattle.qe_writing.specs.Given.{with_columns}
 
 -- ---- pairs
-
-abbrev pub pair_cmp : (Value × Value) → (Value × Value) → Ordering
-pair_cmp = then_cmp (on (λ pair. pair.0) value_cmp) (on (λ pair. pair.1) value_cmp)
-
--- the pairs with this one at its place, once
-abbrev pub with_pair : (Value × Value) → List (Value × Value) → List (Value × Value)
-with_pair pair pairs = filter (λ other. is_lt (pair_cmp other pair)) pairs ++ pair ∷ filter (λ other. is_gt (pair_cmp other pair)) pairs
 
 -- pairs in order
 abbrev pub in_order : List (Value × Value) → List (Value × Value)

@@ -5,9 +5,12 @@ pub mod Doomed
 pub mod Edits
 pub mod Fill
 pub mod Finding
+pub mod FitSamples
 pub mod Given
+pub mod Parts
 pub mod Plain
 pub mod Samples
 pub mod State
 pub mod Ways
 pub mod Write
+pub mod WriteFits

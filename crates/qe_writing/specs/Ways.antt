@@ -1,7 +1,6 @@
 -- The ways from a row to related rows: through the field of a model whose rows hold its reference, and through
 -- a link.
-use Rattle.std.specs.Prelude.{ℕ, ◌+◌, Bool, true, false, ◌&&◌, not, List, [], ◌∷◌, filter, length, zip, slice_get, unwrap_or, Option, Some, None, Result, Ok, Err, if◌then◌else◌, ◌==◌}
-use Rattle.qe_base.specs.Values.{value_eq}
+use Rattle.std.specs.Prelude.{ℕ, ◌+◌, Bool, true, false, not, List, [], ◌∷◌, filter, length, zip, slice_get, unwrap_or, Option, Some, None, Result, Ok, Err, if◌then◌else◌}
 use Rattle.qe_base.specs.declared.value.Row.{Row}
 use Rattle.qe_base.specs.declared.value.Value.{Value}
 use Rattle.qe_base.specs.declared.value.Value.TheVariants.{Null}
@@ -12,11 +11,12 @@ use Rattle.qe_base.specs.declared.answer.Rule.{Rule}
 use Rattle.qe_base.specs.declared.answer.Rule.TheVariants as rule
 use Rattle.qe_schema.specs.Schemas.{Schema, link_of}
 use Rattle.qe_tables.specs.Columns.{Values, at_columns, are_same}
-use Rattle.qe_tables.specs.Tables.{table_at, id_of}
+use Rattle.qe_tables.specs.Pairs.{with_pair, without_pair}
+use Rattle.qe_tables.specs.Tables.{table_at, id_of, with_pairs}
 use Rattle.qe_reading.specs.Related.{is_referred}
 use Rattle.qe_writing.specs.State.{State, ◌>>=◌, with_tables, present, row_followed, follow_all, unfollow}
 use Rattle.qe_writing.specs.Delete.{nulls, relation_id}
-use Rattle.qe_writing.specs.Change.{with_pair, change_of, first_or}
+use Rattle.qe_writing.specs.Change.{change_of, first_or}
 use Rattle.qe_writing.specs.Given.{with_columns}
 
 -- How a field leads to other rows: to which table, and how a row is attached, made room for, detached, given
@@ -128,22 +128,19 @@ abbrev pub pair_of : Bool → Value → Value → Value × Value
 pair_of true own other = (own, other)
 pair_of false own other = (other, own)
 
-abbrev pub is_pair : Value × Value → Value × Value → Bool
-is_pair one other = value_eq one.0 other.0 && value_eq one.1 other.1
-
-abbrev pub with_pairs : ℕ → List (Value × Value) → State → State
-with_pairs link pairs state = with_tables (record state.tables { pairs = λ table. if table == link then pairs else state.tables.pairs table }) state
+abbrev pub pairs_to : ℕ → List (Value × Value) → State → State
+pairs_to link pairs state = with_tables (with_pairs link pairs state.tables) state
 
 abbrev pub link_rows : Schema → ℕ → Bool → ℕ → ℕ → State → Result State Rule
 link_rows schema link is_a own place state = do
   row ← present schema (own_side is_a (link_at schema link)) own state
   other ← present schema (other_side is_a (link_at schema link)) place state
-  Ok (with_pairs link (with_pair (pair_of is_a (single_id schema (own_side is_a (link_at schema link)) row) (single_id schema (other_side is_a (link_at schema link)) other)) (state.tables.pairs link)) state)
+  Ok (pairs_to link (with_pair (pair_of is_a (single_id schema (own_side is_a (link_at schema link)) row) (single_id schema (other_side is_a (link_at schema link)) other)) (state.tables.pairs link)) state)
 
 abbrev pub unlink_row : Schema → ℕ → Bool → ℕ → Row → State → Result State Rule
 unlink_row schema link is_a own other state = do
   row ← present schema (own_side is_a (link_at schema link)) own state
-  Ok (with_pairs link (filter (λ pair. not (is_pair (pair_of is_a (single_id schema (own_side is_a (link_at schema link)) row) (single_id schema (other_side is_a (link_at schema link)) other)) pair)) (state.tables.pairs link)) state)
+  Ok (pairs_to link (without_pair (pair_of is_a (single_id schema (own_side is_a (link_at schema link)) row) (single_id schema (other_side is_a (link_at schema link)) other)) (state.tables.pairs link)) state)
 
 -- through the pairs of a link table
 abbrev pub to_linked : Schema → ℕ → Bool → Way

@@ -162,13 +162,14 @@ related_at schema way table field own (Some at) state =
     or_absent way.other (found schema way.other at state)
     >>= λ row. if list_any (is_row schema way.other row) (related schema state.tables table field own) then Ok row else Err (rule.Unconnected (table_id table) field)
 
+-- the row, if it is such
+abbrev pub only_such : (Row → Bool) → Option Row → Option Row
+only_such test None = None
+only_such test (Some row) = if test row then Some row else None
+
 abbrev pub find_related : Schema → Way → ℕ → ℕ → Row → Option Unique → State → Option Row
 find_related schema way table field own None state = one_related schema state.tables table field own
-find_related schema way table field own (Some at) state = related_only (found schema way.other at state)
-  where
-    related_only : Option Row → Option Row
-    related_only None = None
-    related_only (Some row) = if list_any (is_row schema way.other row) (related schema state.tables table field own) then Some row else None
+find_related schema way table field own (Some at) state = only_such (λ row. list_any (is_row schema way.other row) (related schema state.tables table field own)) (found schema way.other at state)
 
 abbrev pub detach_if : Schema → Way → ℕ → Option Row → State → Result State Rule
 detach_if schema way own None state = Ok state

@@ -2,8 +2,10 @@
 #![tactic(auto)]
 
 mod examples;
+mod fitting;
 
 pub use examples::{
     changes_along_a_chain, connect_or_create_twice, counters, delete_of_the_row_being_updated,
     deletes_in_a_tree, edits_of_numbers, identifiers_in_order, set_on_a_required_relation,
 };
+pub use fitting::{edits_that_fit, new_rows_that_fit, steps_that_fit, what_fits_is_on_models};

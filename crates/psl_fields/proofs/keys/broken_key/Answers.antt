@@ -19,6 +19,6 @@ returns c =
     let named : List Key → List ℕ = λ keys. map key_place (filter (λ key. is_long key && names_field model key.name.text) keys) in
     let all : List Key → Option ℕ = λ keys. earlier (earlier (first (repeated keys)) (first (renamed keys))) (first (named keys)) in
     let renamed_is = c.in_ok-repeated.ensures ∙ ap (λ names. first (map place (repeats same_name names))) names_are in
-    c.earlier-2.ensures ∙ ap (earlier c.earlier.result) c.first_named_as_field-named.ensures
-    ∙ ap (λ r. earlier r (first (named keys))) (c.earlier.ensures ∙ ap (λ r. earlier r c.in_ok-repeated.repeated) c.first_same_fields.ensures ∙ ap (earlier (first (repeated keys))) renamed_is) ∙ ap all keys_are
+    c.earlier-2.ensures ∙ ap (earlier c.earlier.result) c.in_ok-named.ensures
+    ∙ ap (λ r. earlier r (first (named keys))) (c.earlier.ensures ∙ ap (λ r. earlier r c.in_ok-repeated.repeated) c.in_ok-same.ensures ∙ ap (earlier (first (repeated keys))) renamed_is) ∙ ap all keys_are
     ∙ ap (λ r. earlier r (first (named (keys_of model)))) (sym (first_append (repeated (keys_of model)) (renamed (keys_of model)))) ∙ sym (first_append (repeated (keys_of model) ++ renamed (keys_of model)) (named (keys_of model)))

@@ -1,10 +1,10 @@
 use Rattle.std.proofs.Common.{◌≡◌, ℕ, List, map, drop, Bor}
-use Rattle.psl_rules.specs.Parts.{first, earlier, failing}
+use Rattle.psl_rules.specs.Parts.{first, earlier, failing, models}
 use Rattle.psl_rules.specs.Relations.{End, end_place}
 use Rattle.psl_rules.specs.Foreign.{names_columns}
 use Rattle.psl_relations.proofs.foreign.first_without_columns.Given as goal
 
 abbrev pub invariant-loop-end : goal.invariant-loop-end
 invariant-loop-end l =
-    let places : List (Bor End) → List ℕ = λ ends. failing (names_columns l.types (map (λ model. model.now) l.models)) end_place (map (λ end. end.now) ends) in
+    let places : List (Bor End) → List ℕ = λ ends. failing (names_columns l.types (models l.models)) end_place (map (λ end. end.now) ends) in
     earlier l.found (first (places (drop l.end-index l.held))) ≡ first (places l.held)

@@ -1,5 +1,4 @@
 use Rattle.std.proofs.Common.{◌∙◌, ap, refl, map, filter, Bor}
-use Rattle.psl_text.specs.declared.tree.Block.{Block}
 use Rattle.psl_text.specs.declared.tree.Tree.{Tree}
 use Rattle.psl_rules.specs.Parts.{models}
 use Rattle.psl_rules.specs.Relations.{End, has_fields}
@@ -10,6 +9,6 @@ use Rattle.psl_relations.proofs.foreign.references_are_columns.Goals as goal
 pub returns : goal.returns
 returns c =
     let tree : Tree = c.args.types.now in
-    found_among (names_columns tree) _ _ _ _ c.first_without_columns.result (ap (map (λ (block : Bor Block). block.now)) c.as_slice-2.ensures.value ∙ c.in_ok-models.ensures ∙ ap models c.tree.ensures)
-    (ap (map (λ (end : Bor End). end.now)) c.as_slice-3.ensures.value ∙ c.in_ok-held.ensures ∙ ap (filter has_fields) (c.as_slice.ensures.value ∙ c.in_ok-ends.ensures))
+    found_among (names_columns tree) _ _ _ _ c.first_without_columns.result (ap models c.in_ok-models.ensures)
+    (ap (map (λ (end : Bor End). end.now)) c.as_slice-2.ensures.value ∙ c.in_ok-held.ensures ∙ ap (filter has_fields) (c.as_slice.ensures.value ∙ c.in_ok-ends.ensures))
     c.first_without_columns.ensures

@@ -1,0 +1,9 @@
+pub mod Columns
+pub mod Dangling
+pub mod Doomed
+pub mod Equal
+pub mod Fitting
+pub mod Leaving
+pub mod Lists
+pub mod Nulls
+pub mod Refusals

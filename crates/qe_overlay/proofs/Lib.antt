@@ -1,0 +1,9 @@
+pub mod Equal
+pub mod Laying
+pub mod Maps
+pub mod Pairs
+pub mod Rows
+pub mod Seen
+pub mod Starting
+pub mod Undoing
+pub mod Views

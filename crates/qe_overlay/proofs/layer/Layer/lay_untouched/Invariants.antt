@@ -1,0 +1,9 @@
+use Rattle.std.proofs.Common.{◌≡◌, length}
+use Rattle.qe_overlay.specs.Laid.{put_in, untouched}
+use Rattle.qe_overlay.proofs.layer.Layer.lay_untouched.Given as goal
+
+abbrev pub invariant-rows : goal.invariant-rows
+invariant-rows l = put_in l.table (untouched l.table l.self.entries l.rest) l.laid.entries ≡ put_in l.table (untouched l.table l.self.entries l.fn.rows) l.fn.laid.entries
+
+abbrev pub decreases-rows : goal.decreases-rows
+decreases-rows l = length l.rest

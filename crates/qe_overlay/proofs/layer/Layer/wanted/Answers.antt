@@ -1,0 +1,20 @@
+use Rattle.std.proofs.Common.{rules, ◌≡◌, ◌++◌, ◌∙◌, sym, ap, filter, true}
+use Rattle.std.specs.Map.{values_of}
+use Rattle.qe_changes.specs.After.{is_wanted}
+use Rattle.qe_overlay.specs.Layers.{present, Layer}
+use Rattle.qe_overlay.proofs.Laying.{chosen_of, chosen-present, chosen_step, chosen_end}
+use Rattle.qe_overlay.proofs.layer.Layer.wanted.Goals as goal
+
+pub loop-now-init : goal.loop-now-init
+loop-now-init c =
+    rw (c.new-rows.ensures)
+    (ap (chosen_of (is_wanted c.args.columns.now c.args.keys.now)) (c.into_iter-now-iterator.ensures.into_iter_gives ∙ c.values-now-items.ensures.rest)
+    ∙ chosen-present (is_wanted c.args.columns.now c.args.keys.now) c.self.inside.entries.entries ∙ ap (λ (layer : Layer). filter (is_wanted c.args.columns.now c.args.keys.now) (present layer.entries)) c.self.view_is)
+
+pub loop-now-preserved : goal.loop-now-preserved
+loop-now-preserved c =
+    chosen_step (is_wanted c.args.columns.now c.args.keys.now) c.loop-now.rows c.push_wanted.new.rows c.in-Some.now.now c.next.new.self _ c.in_ok-push_wanted.ensures
+    (ap (λ l. c.loop-now.rows ++ chosen_of (is_wanted c.args.columns.now c.args.keys.now) l) (sym c.in-Some.ensures.steps) ∙ c.loop-now.invariant)
+
+pub returns : goal.returns
+returns c = chosen_end (is_wanted c.args.columns.now c.args.keys.now) c.loop-now.rows c.loop-now.now-iterator _ c.in-None.ensures.steps.0 c.loop-now.invariant

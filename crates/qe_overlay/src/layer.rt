@@ -1,0 +1,263 @@
+//! What is entered of one table.
+ghost use Rattle.std.specs.Prelude.{◌≡◌, [], ◌++◌, filter, true, IfOk, OnOk, OnErr};
+ghost use Rattle.std.specs.List.Sorted.{IsStrictlySortedBy};
+ghost use Rattle.std.specs.Map.{keys_of, values_of};
+ghost use Rattle.qe_base.specs.Values.{row_cmp};
+ghost use Rattle.qe_changes.specs.After.{is_wanted as has_wanted};
+ghost use Rattle.qe_tables.specs.Tables.{id_columns as columns_of_id};
+ghost use Rattle.qe_overlay.specs.Fits.{LiesOver};
+ghost use Rattle.qe_overlay.specs.Laid.{row_if, put_in, untouched};
+ghost use Rattle.qe_overlay.specs.Layers.{no_layer, present, over_last};
+ghost use Rattle.qe_overlay.specs.Held.{entry_at, with_entry, with_before, with_raised, with_last};
+
+use qe_base::{Row, Rows, Table};
+use qe_rows::{id_row, is_wanted};
+use qe_text::{Items, Memory};
+use std::alloc::Global;
+use std::collections::BTreeMap;
+use std::marker::Model;
+
+/// Under each id the row that is there now, or that none is, and a counter that was raised. Contracts see the
+/// entries and the counter.
+#[derive(Drop)]
+pub struct Layer {
+    pub entries: BTreeMap<Row, Option<Row>>,
+    pub last: Option<i64>,
+}
+
+impl Model for Layer {
+    ghost use Rattle.qe_overlay.specs.Layers.{Layer};
+
+    ghost Value = { Layer };
+
+    ghost view = { λ l. record { entries = l.entries.entries; last = l.last } };
+}
+
+impl Layer {
+    /// Nothing is entered.
+    pub fn new(alloc: Global) -> Layer
+        ensures { result ≡ no_layer }
+    {
+        Layer {
+            entries: BTreeMap::new(alloc),
+            last: None,
+        }
+    }
+
+    /// Enters what stands under an id now, and gives what stood there before.
+    pub fn enter(&mut self, id: Row, now: Option<Row>) -> Result<Option<Option<Row>>, Memory>
+        ensures before { IfOk result (λ before. before ≡ entry_at id self.old) }
+        ensures ok { OnOk result (self.new ≡ with_entry id now self.old) }
+        ensures err { OnErr result (self.new ≡ self.old) }
+        ensures ordered { IsStrictlySortedBy row_cmp (keys_of self.old.entries) }
+    {
+        let before = self.entries.insert(id, now)?;
+        Ok(before)
+    }
+
+    /// Sets back what stood under an id. It takes no memory.
+    pub fn set_back(&mut self, id: &Row, before: Option<Option<Row>>)
+        ensures { self.new ≡ with_before id.now before self.old }
+    {
+        match before {
+            None => {
+                self.entries.remove(id);
+            }
+            Some(now) => {
+                if let Some(entry) = self.entries.get_mut(id) {
+                    *entry = now;
+                }
+            }
+        }
+    }
+
+    /// Raises the counter, and gives what it was before.
+    pub fn raise(&mut self, last: i64) -> Option<i64>
+        ensures before { result ≡ self.old.last }
+        ensures raised { self.new ≡ with_raised last self.old }
+    {
+        let before = self.last;
+        let raised = match before {
+            None => last,
+            Some(raised) => last.max(raised),
+        };
+        self.last = Some(raised);
+        before
+    }
+
+    /// A counter below, or the one that it was raised to.
+    pub fn last_over(&self, below: i64) -> i64
+        ensures { result ≡ over_last self.now.last below }
+    {
+        match self.last {
+            None => below,
+            Some(raised) => raised.max(below),
+        }
+    }
+
+    /// Sets a raised counter back to what it was.
+    pub fn set_last(&mut self, before: Option<i64>)
+        ensures { self.new ≡ with_last before self.old }
+    {
+        if self.last.is_some() {
+            self.last = before;
+        }
+    }
+
+    /// Equal rows of those that are there now and have one of the keys in the columns.
+    pub fn wanted(&self, alloc: Global, columns: &[u16], keys: &[Row]) -> Result<Items<Row>, Memory>
+        ensures { IfOk result (λ rows. rows ≡ filter (has_wanted columns.now keys.now) (present self.now.entries)) }
+    {
+        let mut rows = Items::new(alloc);
+        for now in self.entries.values() {
+            push_wanted(alloc, &mut rows, columns, keys, now)?;
+        }
+        Ok(rows)
+    }
+
+    /// Equal rows of all that are there now.
+    pub fn all(&self, alloc: Global) -> Result<Items<Row>, Memory>
+        ensures { IfOk result (λ rows. rows ≡ filter (λ row. true) (present self.now.entries)) }
+    {
+        let mut rows = Items::new(alloc);
+        for now in self.entries.values() {
+            push_row(alloc, &mut rows, now)?;
+        }
+        Ok(rows)
+    }
+
+    /// Rows below with the entered ones laid over them that have one of the keys in the columns, in the order
+    /// of their ids. Where nothing is entered they stay as they are.
+    pub fn wanted_over(
+        &self,
+        alloc: Global,
+        table: &Table,
+        columns: &[u16],
+        keys: &[Row],
+        rows: Rows,
+    ) -> Result<Rows, Memory>
+        ensures { IfOk result (λ seen. LiesOver table.now self.now.entries (has_wanted columns.now keys.now) rows.rows seen.rows) }
+    {
+        if self.entries.is_empty() {
+            return Ok(rows);
+        }
+        let entered = self.wanted(alloc, columns, keys)?;
+        let rows = self.laid_with(alloc, table, rows.rows, entered)?;
+        Ok(Rows { rows })
+    }
+
+    /// Rows below with all entered ones laid over them, in the order of their ids. Where nothing is entered
+    /// they stay as they are.
+    pub fn all_over(&self, alloc: Global, table: &Table, rows: Rows) -> Result<Rows, Memory>
+        ensures { IfOk result (λ seen. LiesOver table.now self.now.entries (λ row. true) rows.rows seen.rows) }
+    {
+        if self.entries.is_empty() {
+            return Ok(rows);
+        }
+        let entered = self.all(alloc)?;
+        let rows = self.laid_with(alloc, table, rows.rows, entered)?;
+        Ok(Rows { rows })
+    }
+
+    /// Those of the rows that aren't entered, and the entered ones, in the order of their ids.
+    fn laid_with(
+        &self,
+        alloc: Global,
+        table: &Table,
+        rows: Items<Row>,
+        entered: Items<Row>,
+    ) -> Result<Items<Row>, Memory>
+        ensures { IfOk result (λ seen. seen ≡ values_of (put_in table.now entered (put_in table.now (untouched table.now self.now.entries rows) []))) }
+    {
+        let mut laid = BTreeMap::new(alloc);
+        self.lay_untouched(alloc, &mut laid, table, rows)?;
+        lay(alloc, &mut laid, table, entered)?;
+        rows_of(alloc, laid)
+    }
+
+    /// Lays those of the rows that aren't entered under their ids.
+    fn lay_untouched(
+        &self,
+        alloc: Global,
+        laid: &mut BTreeMap<Row, Row>,
+        table: &Table,
+        rows: Items<Row>,
+    ) -> Result<(), Memory>
+        ensures { OnOk result (laid.new.entries ≡ put_in table.now (untouched table.now self.now.entries rows) laid.old.entries) }
+    {
+        let mut rest = rows;
+        'rows: while let Some(row) = rest.pop() {
+            let id = id_row(alloc, id_columns(table), &row)?;
+            if !self.entries.contains_key(&id) {
+                laid.insert(id, row)?;
+            }
+        }
+        Ok(())
+    }
+}
+
+/// The columns of a table's id.
+pub fn id_columns(table: &Table) -> &[u16]
+    ensures { result.now ≡ columns_of_id table.now }
+{
+    match table.keys.as_slice() {
+        [] => &[],
+        [key, ..] => key.columns.as_slice(),
+    }
+}
+
+/// Appends an equal row, if there is one that has one of the keys in the columns.
+fn push_wanted(
+    alloc: Global,
+    rows: &mut Items<Row>,
+    columns: &[u16],
+    keys: &[Row],
+    now: &Option<Row>,
+) -> Result<(), Memory>
+    ensures { OnOk result (rows.new ≡ rows.old ++ row_if (has_wanted columns.now keys.now) now.now) }
+{
+    if let Some(row) = now {
+        if is_wanted(columns, keys, row) {
+            rows.push(row.copy(alloc)?)?;
+        }
+    }
+    Ok(())
+}
+
+/// Appends an equal row, if there is one.
+fn push_row(alloc: Global, rows: &mut Items<Row>, now: &Option<Row>) -> Result<(), Memory>
+    ensures { OnOk result (rows.new ≡ rows.old ++ row_if (λ row. true) now.now) }
+{
+    if let Some(row) = now {
+        rows.push(row.copy(alloc)?)?;
+    }
+    Ok(())
+}
+
+/// Lays rows under their ids.
+fn lay(
+    alloc: Global,
+    laid: &mut BTreeMap<Row, Row>,
+    table: &Table,
+    rows: Items<Row>,
+) -> Result<(), Memory>
+    ensures { OnOk result (laid.new.entries ≡ put_in table.now rows laid.old.entries) }
+{
+    let mut rest = rows;
+    'rows: while let Some(row) = rest.pop() {
+        let id = id_row(alloc, id_columns(table), &row)?;
+        laid.insert(id, row)?;
+    }
+    Ok(())
+}
+
+/// The rows of a map, in its order.
+fn rows_of(alloc: Global, laid: BTreeMap<Row, Row>) -> Result<Items<Row>, Memory>
+    ensures { IfOk result (λ rows. rows ≡ values_of laid.entries) }
+{
+    let mut rows = Items::new(alloc);
+    for row in laid.into_values() {
+        rows.push(row)?;
+    }
+    Ok(rows)
+}

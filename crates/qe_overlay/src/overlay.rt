@@ -1,0 +1,227 @@
+//! What is entered of all tables, and how it is taken back.
+ghost use Rattle.std.specs.Prelude.{◌≡◌, ◌≤◌, ◌<◌, ◌+◌, ◌∷◌, ◌++◌, [], length, true, IfOk, OnOk, OnErr, None, Some};
+ghost use Rattle.qe_changes.specs.After.{is_wanted};
+ghost use Rattle.qe_overlay.specs.Fits.{LiesOver};
+ghost use Rattle.qe_overlay.specs.Layers.{over_last};
+ghost use Rattle.qe_overlay.specs.Held.{held_in, layers_in, none_kept, entered, raised, undone, GoesBack};
+
+use crate::layer::Layer;
+use qe_base::{Row, Rows, Table, TableId};
+use qe_text::Memory;
+use qe_view::Mark;
+use std::alloc::Global;
+use std::marker::Model;
+
+/// What takes one change back.
+#[derive(Drop)]
+pub enum Undo {
+    /// What stood under an id.
+    Entered {
+        table: TableId,
+        id: Row,
+        before: Option<Option<Row>>,
+    },
+    /// What the counter was.
+    Raised {
+        table: TableId,
+        before: Option<i64>,
+    },
+}
+
+/// Changes of the rows, pairs and counters of tables, and the changes that take them back. Contracts see the
+/// layers, and what they were before each change.
+#[derive(Drop)]
+pub struct Overlay {
+    alloc: Global,
+    layers: Vec<Layer>,
+    log: Vec<Undo>,
+}
+
+impl Model for Overlay {
+    ghost use Rattle.qe_overlay.specs.Held.{Kept};
+
+    ghost Value = { Kept };
+
+    ghost view = { λ o. record { layers = o.layers.items; log = o.log.items } };
+}
+
+impl Overlay {
+    /// No changes. It takes no memory.
+    pub fn new(alloc: Global) -> Overlay
+        ensures { result ≡ none_kept }
+    {
+        Overlay {
+            alloc,
+            layers: Vec::new(alloc),
+            log: Vec::new(alloc),
+        }
+    }
+
+    /// Makes sure that there is a layer for a table.
+    fn reach(&mut self, table: TableId) -> Result<(), Memory>
+        ensures held { held_in self.new ≡ held_in self.old }
+        ensures reached { OnOk result (table.0 < length self.new.layers) }
+    {
+        'layers: while self.layers.len() <= table.0 as usize {
+            self.layers.push(Layer::new(self.alloc))?;
+        }
+        Ok(())
+    }
+
+    /// Enters what stands under an id now. After a refusal all is as before.
+    fn enter(&mut self, table: TableId, id: Row, now: Option<Row>) -> Result<(), Memory>
+        ensures ok { OnOk result (held_in self.new ≡ entered table.0 id now (held_in self.old)) }
+        ensures err { OnErr result (held_in self.new ≡ held_in self.old) }
+    {
+        let under = id.copy(self.alloc)?;
+        self.reach(table)?;
+        self.log.reserve(1)?;
+        let layer = &mut self.layers[table.0 as usize];
+        let before = layer.enter(id, now)?;
+        self.log.push_reserved(Undo::Entered {
+            table,
+            id: under,
+            before,
+        });
+        Ok(())
+    }
+
+    /// Raises the counter of a table. After a refusal all is as before.
+    pub fn raise(&mut self, table: TableId, last: i64) -> Result<(), Memory>
+        ensures ok { OnOk result (held_in self.new ≡ raised table.0 last (held_in self.old)) }
+        ensures err { OnErr result (held_in self.new ≡ held_in self.old) }
+    {
+        self.reach(table)?;
+        self.log.reserve(1)?;
+        let layer = &mut self.layers[table.0 as usize];
+        let before = layer.raise(last);
+        self.log.push_reserved(Undo::Raised { table, before });
+        Ok(())
+    }
+
+    /// How many changes there are that can be taken back.
+    pub fn mark(&self) -> Mark
+        ensures { result.0 ≡ length (held_in self.now).past }
+    {
+        Mark(self.log.len() as u64)
+    }
+
+    /// Changes the layers to what they were before a change.
+    fn undo(&mut self, undo: Undo)
+        ensures layers { layers_in self.new.layers ≡ undone undo (layers_in self.old.layers) }
+        ensures log { self.new.log ≡ self.old.log }
+    {
+        match undo {
+            Undo::Entered { table, id, before } => {
+                let at = table.0 as usize;
+                if at < self.layers.len() {
+                    let layer = &mut self.layers[at];
+                    layer.set_back(&id, before);
+                }
+            }
+            Undo::Raised { table, before } => {
+                let at = table.0 as usize;
+                if at < self.layers.len() {
+                    let layer = &mut self.layers[at];
+                    layer.set_last(before);
+                }
+            }
+        }
+    }
+
+    /// Takes the last change back, if there is one.
+    fn undo_last(&mut self)
+        ensures none { self.old.log ≡ [] → self.new ≡ self.old }
+        ensures one { 0 < length self.old.log → length self.new.log + 1 ≡ length self.old.log }
+        ensures past { 0 < length self.old.log → (held_in self.old).past ≡ (held_in self.new).past ++ (held_in self.new).layers ∷ [] }
+    {
+        if let Some(undo) = self.log.pop() {
+            self.undo(undo);
+        }
+    }
+
+    /// Takes back all changes after a mark. It takes no memory.
+    pub fn back(&mut self, to: Mark)
+        requires { to.0 ≤ length (held_in self.old).past }
+        ensures { GoesBack to.0 (held_in self.old) (held_in self.new) }
+    {
+        'changes: while self.mark().0 > to.0 {
+            self.undo_last();
+        }
+    }
+
+    /// Puts a row under its id.
+    pub fn put(&mut self, table: TableId, id: Row, row: Row) -> Result<(), Memory>
+        ensures ok { OnOk result (held_in self.new ≡ entered table.0 id (Some row) (held_in self.old)) }
+        ensures err { OnErr result (held_in self.new ≡ held_in self.old) }
+    {
+        self.enter(table, id, Some(row))
+    }
+
+    /// Removes what stands under an id, a row or a pair.
+    pub fn remove(&mut self, table: TableId, id: Row) -> Result<(), Memory>
+        ensures ok { OnOk result (held_in self.new ≡ entered table.0 id None (held_in self.old)) }
+        ensures err { OnErr result (held_in self.new ≡ held_in self.old) }
+    {
+        self.enter(table, id, None)
+    }
+
+    /// Puts a pair of a link table.
+    pub fn link(&mut self, table: TableId, pair: Row) -> Result<(), Memory>
+        ensures ok { OnOk result (held_in self.new ≡ entered table.0 pair (Some pair) (held_in self.old)) }
+        ensures err { OnErr result (held_in self.new ≡ held_in self.old) }
+    {
+        let under = pair.copy(self.alloc)?;
+        self.enter(table, under, Some(pair))
+    }
+
+    /// Forgets all changes. It takes no memory.
+    pub fn clear(&mut self)
+        ensures { self.new ≡ none_kept }
+    {
+        self.layers.clear();
+        self.log.clear();
+    }
+
+    /// What it takes memory from.
+    pub fn allocator(&self) -> Global {
+        self.alloc
+    }
+
+    /// Rows below with the entered ones laid over them that have one of the keys in the columns.
+    pub fn wanted_over(
+        &self,
+        table: TableId,
+        shape: &Table,
+        columns: &[u16],
+        keys: &[Row],
+        rows: Rows,
+    ) -> Result<Rows, Memory>
+        ensures { IfOk result (λ seen. LiesOver shape.now ((held_in self.now).layers table.0).entries (is_wanted columns.now keys.now) rows.rows seen.rows) }
+    {
+        match self.layers.get(table.0 as usize) {
+            None => Ok(rows),
+            Some(layer) => layer.wanted_over(self.alloc, shape, columns, keys, rows),
+        }
+    }
+
+    /// Rows below with all entered ones laid over them.
+    pub fn all_over(&self, table: TableId, shape: &Table, rows: Rows) -> Result<Rows, Memory>
+        ensures { IfOk result (λ seen. LiesOver shape.now ((held_in self.now).layers table.0).entries (λ row. true) rows.rows seen.rows) }
+    {
+        match self.layers.get(table.0 as usize) {
+            None => Ok(rows),
+            Some(layer) => layer.all_over(self.alloc, shape, rows),
+        }
+    }
+
+    /// A counter below, or the one that it was raised to.
+    pub fn last_over(&self, table: TableId, below: i64) -> i64
+        ensures { result ≡ over_last ((held_in self.now).layers table.0).last below }
+    {
+        match self.layers.get(table.0 as usize) {
+            None => below,
+            Some(layer) => layer.last_over(below),
+        }
+    }
+}

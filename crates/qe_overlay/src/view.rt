@@ -1,0 +1,142 @@
+//! The tables of a connector, seen through an overlay.
+ghost use Rattle.std.specs.Prelude.{◌≡◌, true};
+ghost use Rattle.qe_changes.specs.Right.{has_table};
+ghost use Rattle.qe_tables.specs.Tables.{table_at};
+
+use crate::layer::id_columns;
+use crate::overlay::Overlay;
+use qe_base::{Row, Rows, Table, TableId, Value};
+use qe_changes::ConnFault;
+use qe_rows::{id_row, pair_row};
+use qe_schema::Schema;
+use qe_text::Memory;
+use qe_view::{Connector, Mark, View};
+
+/// The tables that a connector keeps, with the changes of an overlay. Changes stay in the overlay, and each
+/// reading makes one call below.
+#[derive(Drop)]
+pub struct OverlayView<'s, C> {
+    schema: &'s Schema,
+    overlay: Overlay,
+    below: C,
+}
+
+/// The table of a number.
+fn shape_of(schema: &Schema, table: TableId) -> &Table
+    requires { has_table schema.now table.0 ≡ true }
+    ensures { result.now ≡ table_at schema.now table.0 }
+{
+    &schema.table_list()[table.0 as usize]
+}
+
+impl<'s, C> OverlayView<'s, C> {
+    /// The tables below with what the overlay holds.
+    pub fn over(schema: &'s Schema, overlay: Overlay, below: C) -> OverlayView<'s, C>
+        ensures schema { result.schema.now ≡ schema.now }
+        ensures overlay { result.overlay ≡ overlay }
+        ensures below { result.below ≡ below }
+    {
+        OverlayView {
+            schema,
+            overlay,
+            below,
+        }
+    }
+
+    /// The overlay, and what is below.
+    pub fn release(self) -> (Overlay, C)
+        ensures overlay { result.0 ≡ self.entry.overlay }
+        ensures below { result.1 ≡ self.entry.below }
+    {
+        let OverlayView {
+            schema: _,
+            overlay,
+            below,
+        } = self;
+        (overlay, below)
+    }
+}
+
+impl<'s, C: Connector> View for OverlayView<'s, C> {
+    ghost use Rattle.qe_overlay.specs.Fits.{Stands, versions_over, stands_fit};
+    ghost use Rattle.qe_overlay.specs.Held.{held_in};
+
+    ghost schema = { λ v. v.schema.now };
+
+    ghost versions = { λ v. versions_over v.schema.now (C.told v.below) (held_in v.overlay) };
+
+    ghost stands = { λ v. Stands v.schema.now (C.attached v.below) (C.told v.below) (held_in v.overlay) };
+
+    ghost fault_count = { λ v. C.fault_count v.below };
+
+    ghost misfit_count = { λ v. C.misfit_count v.below };
+
+    ghost may_fail = { λ v. C.may_fail v.below };
+
+    ghost calls = { λ v. C.calls v.below };
+
+    ghost fits = { λ v s. stands_fit v.schema.now (C.attached v.below) (C.told v.below) (held_in v.overlay) s };
+
+    fn load(&mut self, table: TableId, columns: &[u16], keys: &[Row]) -> Result<Rows, ConnFault> {
+        let found = self.below.load(table, columns, keys)?;
+        let shape = shape_of(self.schema, table);
+        let rows = self
+            .overlay
+            .wanted_over(table, shape, columns, keys, found)?;
+        Ok(rows)
+    }
+
+    fn scan(&mut self, table: TableId) -> Result<Rows, ConnFault> {
+        let found = self.below.scan(table)?;
+        let shape = shape_of(self.schema, table);
+        let rows = self.overlay.all_over(table, shape, found)?;
+        Ok(rows)
+    }
+
+    fn last(&mut self, table: TableId) -> Result<i64, ConnFault> {
+        let below = self.below.last(table)?;
+        Ok(self.overlay.last_over(table, below))
+    }
+
+    fn put(&mut self, table: TableId, row: Row) -> Result<(), ConnFault> {
+        let shape = shape_of(self.schema, table);
+        let id = id_row(self.overlay.allocator(), id_columns(shape), &row)?;
+        self.overlay.put(table, id, row)?;
+        Ok(())
+    }
+
+    fn remove(&mut self, table: TableId, id: &Row) -> Result<(), ConnFault> {
+        let id = id.copy(self.overlay.allocator())?;
+        self.overlay.remove(table, id)?;
+        Ok(())
+    }
+
+    fn link(&mut self, table: TableId, a: Value, b: Value) -> Result<(), ConnFault> {
+        let pair = pair_row(self.overlay.allocator(), &a, &b)?;
+        self.overlay.link(table, pair)?;
+        Ok(())
+    }
+
+    fn unlink(&mut self, table: TableId, a: &Value, b: &Value) -> Result<(), ConnFault> {
+        let pair = pair_row(self.overlay.allocator(), a, b)?;
+        self.overlay.remove(table, pair)?;
+        Ok(())
+    }
+
+    fn raise(&mut self, table: TableId, last: i64) -> Result<(), Memory> {
+        self.overlay.raise(table, last)?;
+        Ok(())
+    }
+
+    fn mark(&self) -> Mark {
+        self.overlay.mark()
+    }
+
+    fn back(&mut self, to: Mark) {
+        self.overlay.back(to);
+    }
+
+    fn faults(&self) -> u64 {
+        self.below.faults()
+    }
+}

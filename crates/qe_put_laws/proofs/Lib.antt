@@ -1,0 +1,4 @@
+pub mod Lists
+pub mod PairOrder
+pub mod Puts
+pub mod Values

@@ -1,0 +1,79 @@
+-- Refused operations, and those that only read, leave the tables as they were.
+use Rattle.std.proofs.Common.{◌≡◌, ℕ, ◌+◌, true, List, [], ◌∷◌, Option, Some, None, Result, Ok, Err, IfOk, is_ok, refl, sym, ap, ◌∙◌, true≢false}
+use Rattle.std.specs.List.{list_all}
+use Rattle.std.proofs.lemmas.Bool.{and_parts}
+use Rattle.qe_base.specs.declared.answer.Answer.{Answer}
+use Rattle.qe_base.specs.declared.answer.Outside.{Outside}
+use Rattle.qe_base.specs.declared.answer.Rule.{Rule}
+use Rattle.qe_base.specs.declared.write.Op.{Op}
+use Rattle.qe_base.specs.declared.write.Op.TheVariants as op
+use Rattle.qe_schema.specs.Schemas.{Schema}
+use Rattle.qe_tables.specs.Tables.{Tables}
+use Rattle.qe_writing.specs.Batch.{Answers, Refusal, with_answer, or_refusal, outside_of, all_from, all_done, plain_all}
+use Rattle.qe_writing.specs.Plain.{Changed, Done, plain, read_or_done, write_by}
+use Rattle.qe_reading.specs.Read.{read_of}
+use Rattle.qe_write_laws.specs.Reads.{only_reads}
+
+-- ---- refusals
+
+left : (tables : Tables) (written : Result Changed Rule) (read : Option (Result Answer Rule)) (broken : Rule) → (read_or_done tables written read).answer ≡ Err broken → (read_or_done tables written read).tables ≡ tables
+left tables (Ok after) None broken refused = absurd (true≢false (ap is_ok refused))
+left tables (Err other) None broken refused = refl
+left tables (Ok after) (Some read) broken refused = refl
+left tables (Err other) (Some read) broken refused = refl
+
+pub refused_leaves : (schema : Schema) (op : Op) (outside : Outside) (tables : Tables) (broken : Rule) → (plain schema op outside tables).answer ≡ Err broken → (plain schema op outside tables).tables ≡ tables
+refused_leaves schema op outside tables broken = left tables (write_by schema op outside tables) (read_of schema tables op) broken
+
+all_left : (tables : Tables) (result : Result Answers Refusal) (refusal : Refusal) → (all_done tables result).answers ≡ Err refusal → (all_done tables result).tables ≡ tables
+all_left tables (Ok all) refusal refused = absurd (true≢false (ap is_ok refused))
+all_left tables (Err other) refusal refused = refl
+
+pub batch_refused_leaves : (schema : Schema) (ops : List Op) (outside : Outside) (tables : Tables) (refusal : Refusal) → (plain_all schema ops outside tables).answers ≡ Err refusal → (plain_all schema ops outside tables).tables ≡ tables
+batch_refused_leaves schema ops outside tables refusal = all_left tables (all_from schema ops outside 0 tables) refusal
+
+-- ---- reads
+
+pub read_leaves : (schema : Schema) (op : Op) (outside : Outside) (tables : Tables) → only_reads op ≡ true → (plain schema op outside tables).tables ≡ tables
+read_leaves schema (op.FindUnique table at strict pick) outside tables reads = refl
+read_leaves schema (op.FindFirst table look strict pick) outside tables reads = refl
+read_leaves schema (op.FindMany table look pick) outside tables reads = refl
+read_leaves schema (op.Count table look) outside tables reads = refl
+read_leaves schema (op.Create table tree pick) outside tables reads = absurd (true≢false (sym reads))
+read_leaves schema (op.CreateMany table trees pick) outside tables reads = absurd (true≢false (sym reads))
+read_leaves schema (op.Update table at tree pick) outside tables reads = absurd (true≢false (sym reads))
+read_leaves schema (op.UpdateMany table asked tree) outside tables reads = absurd (true≢false (sym reads))
+read_leaves schema (op.Upsert table at create update pick) outside tables reads = absurd (true≢false (sym reads))
+read_leaves schema (op.Delete table at pick) outside tables reads = absurd (true≢false (sym reads))
+read_leaves schema (op.DeleteMany table asked) outside tables reads = absurd (true≢false (sym reads))
+
+-- the tables at the end are these
+abbrev EndAt : Tables → Result Answers Refusal → Type 0
+EndAt tables result = IfOk result (λ all. all.tables ≡ tables)
+
+with_answer_ends : (tables : Tables) (answer : Answer) (result : Result Answers Refusal) → EndAt tables result → EndAt tables (with_answer answer result)
+with_answer_ends tables answer (Ok rest) ends = ends
+with_answer_ends tables answer (Err refusal) ends = tt
+
+or_refusal_ends : (tables : Tables) (number : ℕ) (answer : Result Answer Rule) (next : Answer → Result Answers Refusal) → ((answer : Answer) → EndAt tables (next answer)) → EndAt tables (or_refusal number answer next)
+or_refusal_ends tables number (Ok answer) next ends = ends answer
+or_refusal_ends tables number (Err broken) next ends = tt
+
+moved_end : (tables before : Tables) → before ≡ tables → (result : Result Answers Refusal) → EndAt before result → EndAt tables result
+moved_end tables before same (Ok all) ends = ends ∙ same
+moved_end tables before same (Err refusal) ends = tt
+
+all_from_ends : (schema : Schema) (ops : List Op) (outside : Outside) (number : ℕ) (tables : Tables) → list_all only_reads ops ≡ true → EndAt tables (all_from schema ops outside number tables)
+all_from_ends schema [] outside number tables reads = refl
+all_from_ends schema (op ∷ ops) outside number tables reads =
+    let parts = and_parts (only_reads op) (list_all only_reads ops) reads in
+    let first : Done = plain schema op (outside_of outside number) tables in
+    or_refusal_ends tables number first.answer _ (λ answer. with_answer_ends tables answer (all_from schema ops outside (number + 1) first.tables)
+    (moved_end tables first.tables (read_leaves schema op (outside_of outside number) tables parts.0) (all_from schema ops outside (number + 1) first.tables) (all_from_ends schema ops outside (number + 1) first.tables parts.1)))
+
+all_done_ends : (tables : Tables) (result : Result Answers Refusal) → EndAt tables result → (all_done tables result).tables ≡ tables
+all_done_ends tables (Ok all) ends = ends
+all_done_ends tables (Err refusal) ends = refl
+
+pub batch_read_leaves : (schema : Schema) (ops : List Op) (outside : Outside) (tables : Tables) → list_all only_reads ops ≡ true → (plain_all schema ops outside tables).tables ≡ tables
+batch_read_leaves schema ops outside tables reads = all_done_ends tables (all_from schema ops outside 0 tables) (all_from_ends schema ops outside 0 tables reads)
