@@ -8,6 +8,7 @@ ghost use Rattle.std.specs.Prelude.{◌≡◌, ◌≢◌};
 mod tests;
 
 use qe_cli::{StdHost, command};
+use qe_mem::MemConnector;
 use std::env;
 use std::io::{self, ErrorKind};
 use std::process::ExitCode;
@@ -17,7 +18,8 @@ fn words(rt: &HostRuntime) -> io::Result<Vec<String>> {
     Ok(env::args(rt)?.collect(rt.alloc())?)
 }
 
-/// Says why the words can't be had, and gives the status: memory is short, or they are no texts.
+/// Says why no command is carried out, and gives the status: memory is short, or the words are no
+/// texts.
 fn refuse(rt: &HostRuntime, why: ErrorKind) -> u8
     ensures memory { why ≡ ErrorKind.OutOfMemory → result ≡ 5 }
     ensures usage { why ≢ ErrorKind.OutOfMemory → result ≡ 2 }
@@ -31,9 +33,16 @@ fn refuse(rt: &HostRuntime, why: ErrorKind) -> u8
 }
 
 fn main(rt: HostRuntime) -> ExitCode {
-    let status = match words(&rt) {
-        Ok(words) => command(rt.alloc(), words.as_slice(), &mut StdHost::new(rt)),
-        Err(error) => refuse(&rt, error.kind()),
+    let words = match words(&rt) {
+        Ok(words) => words,
+        Err(error) => return ExitCode::from(refuse(&rt, error.kind())),
     };
-    ExitCode::from(status)
+    let Ok(tables) = MemConnector::new(rt.alloc(), &[]) else {
+        return ExitCode::from(refuse(&rt, ErrorKind::OutOfMemory));
+    };
+    let Ok(memory) = Box::new(rt.alloc(), tables) else {
+        return ExitCode::from(refuse(&rt, ErrorKind::OutOfMemory));
+    };
+    let ended = command(rt.alloc(), words.as_slice(), &mut StdHost::new(rt), memory);
+    ExitCode::from(ended.status)
 }

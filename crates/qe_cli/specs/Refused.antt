@@ -44,6 +44,8 @@ Unread end.FetchFault text = ⊥
 Unread end.ReadFault text = ⊥
 Unread end.WriteFault text = ⊥
 Unread end.Memory text = Unit {0}
+Unread (end.ConnectorFault first last) text = ⊥
+Unread end.LayoutDiffers text = ⊥
 Unread end.LongInput text = ⊥
 
 -- the line of a fault of this kind, at a place

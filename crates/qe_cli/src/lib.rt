@@ -1,41 +1,16 @@
 //! The commands of the engine.
 #![tactic(auto)]
 
-mod answer;
 mod commands;
-mod empty;
-mod host;
-mod input;
 mod real;
 mod refusal;
-mod take;
 #[cfg(test)]
 mod tests;
 mod words;
 
-pub use commands::{command, offline};
+pub use commands::{Ended, command, offline};
 pub use real::StdHost;
 pub use refusal::Refusal;
-
-/// Why taking lines stopped.
-#[derive(Clone, Copy, Debug, PartialEq, Eq)]
-pub enum Stop {
-    /// A write failed.
-    Write,
-    Memory,
-}
-
-/// How the lines of an input ended.
-#[derive(Clone, Copy, Debug, PartialEq, Eq)]
-pub enum LinesEnd {
-    /// The input was read to its end.
-    Done,
-    /// The input has more than 67,108,864 bytes.
-    LongInput,
-    ReadFault,
-    WriteFault,
-    Memory,
-}
 
 /// How a command ends.
 #[derive(Clone, Copy, Debug, PartialEq, Eq)]
@@ -50,6 +25,10 @@ pub enum End {
     ReadFault,
     WriteFault,
     Memory,
+    /// The connector couldn't be attached; its count of faults before and after.
+    ConnectorFault { before: u64, after: u64 },
+    /// What the connector keeps is laid out for another schema.
+    LayoutDiffers,
     /// The input has more than 67,108,864 bytes.
     LongInput,
 }

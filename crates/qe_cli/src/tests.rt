@@ -5,6 +5,7 @@ use crate::{StdHost, command};
 use qe_base::{
     Bytes, Failed, FetchFault, Host, Items, MemHost, MemSink, MemSource, Memory, Sink, Source, Text,
 };
+use qe_mem::{CallKind, FailAt, MemConnector};
 use std::alloc::Global;
 use std::fs;
 use std::test::Fail;
@@ -27,6 +28,8 @@ const NOBODY: &str = r#"{"data":null}"#;
 
 const TWICE: &str =
     r#"{"error":{"cause":"unique","code":"P2002","meta":{"model":"User","target":["id"]}}}"#;
+
+const FAILED: &str = r#"{"error":{"cause":"connector","code":"E1","meta":{"after":1,"before":0}}}"#;
 
 const NOT_JSON: &str = r#"{"error":{"cause":"json","code":"E3","meta":{}}}"#;
 
@@ -186,8 +189,9 @@ fn run(
 ) -> Result<(u8, Bytes), Memory> {
     let mut host = host_with(alloc, input, failing_reads, failing_writes)?;
     let words = split_words(alloc, words)?;
-    let status = command(alloc, words.as_slice(), &mut host);
-    Ok((status, Bytes::from_slice(alloc, host.taken())?))
+    let memory = Box::new(alloc, MemConnector::new(alloc, &[])?)?;
+    let ended = command(alloc, words.as_slice(), &mut host, memory);
+    Ok((ended.status, Bytes::from_slice(alloc, host.taken())?))
 }
 
 /// The status of a command that reads the schema alone, over a text, and what it wrote. A read would
@@ -200,8 +204,9 @@ fn read_alone(
 ) -> Result<(u8, Bytes), Memory> {
     let mut host = host_over(alloc, text, &[FIND_1], &[1], failing_writes)?;
     let words = split_words(alloc, words)?;
-    let status = command(alloc, words.as_slice(), &mut host);
-    Ok((status, Bytes::from_slice(alloc, host.taken())?))
+    let memory = Box::new(alloc, MemConnector::new(alloc, &[])?)?;
+    let ended = command(alloc, words.as_slice(), &mut host, memory);
+    Ok((ended.status, Bytes::from_slice(alloc, host.taken())?))
 }
 
 fn validate(alloc: Global, text: &[u8], failing_writes: &[u64]) -> Result<(u8, Bytes), Memory> {
@@ -410,7 +415,9 @@ fn keeps_each_model_apart(rt: HostRuntime) -> Result<(), Fail> {
     let want = joined(alloc, &[ADA, held, pet, UNBUILT, pet, NOBODY], "\n")?;
     let mut host = host_over(alloc, PETS.as_bytes(), &input, &[], &[])?;
     let words = split_words(alloc, "engine run people")?;
-    assert_eq!(rt; command(alloc, words.as_slice(), &mut host), 0);
+    let memory = Box::new(alloc, MemConnector::new(alloc, &[])?)?;
+    let ended = command(alloc, words.as_slice(), &mut host, memory);
+    assert_eq!(rt; ended.status, 0);
     assert_eq!(rt; host.taken(), want.as_str().as_bytes());
     Ok(())
 }
@@ -458,6 +465,37 @@ fn ends_at_a_fault(rt: HostRuntime) -> Result<(), Fail> {
     Ok(())
 }
 
+/// Over a connector whose calls fail so.
+fn run_failing(alloc: Global, input: &[&str], fail: &[FailAt]) -> Result<(u8, Bytes), Memory> {
+    let mut host = host_with(alloc, input, &[], &[])?;
+    let words = split_words(alloc, "engine run people")?;
+    let memory = Box::new(alloc, MemConnector::new(alloc, fail)?)?;
+    let ended = command(alloc, words.as_slice(), &mut host, memory);
+    Ok((ended.status, Bytes::from_slice(alloc, host.taken())?))
+}
+
+#[test]
+fn tells_a_failed_connector(rt: HostRuntime) -> Result<(), Fail> {
+    let alloc = rt.alloc();
+    let input = [CREATE, "\n", FIND_1, "\n", CREATE, "\n", FIND_1];
+    let apply = FailAt {
+        call: CallKind::Apply,
+        number: 1,
+    };
+    let (status, written) = run_failing(alloc, &input, &[apply])?;
+    let want = joined(alloc, &[FAILED, NOBODY, ADA, ADA], "\n")?;
+    assert_eq!(rt; written.as_slice(), want.as_str().as_bytes());
+    assert_eq!(rt; status, 0);
+    let attach = FailAt {
+        call: CallKind::Attach,
+        number: 1,
+    };
+    let (status, written) = run_failing(alloc, &input, &[attach])?;
+    assert_eq!(rt; written.as_slice(), b"connector failed 0 1\n".as_slice());
+    assert_eq!(rt; status, 6);
+    Ok(())
+}
+
 #[test]
 fn passes_single_bytes(rt: HostRuntime) -> Result<(), Fail> {
     let alloc = rt.alloc();
@@ -465,7 +503,9 @@ fn passes_single_bytes(rt: HostRuntime) -> Result<(), Fail> {
         inner: host_with(alloc, &["\n", CREATE, "\n{\n \n", FIND_1], &[], &[])?,
     };
     let words = split_words(alloc, "engine run people")?;
-    assert_eq!(rt; command(alloc, words.as_slice(), &mut host), 0);
+    let memory = Box::new(alloc, MemConnector::new(alloc, &[])?)?;
+    let ended = command(alloc, words.as_slice(), &mut host, memory);
+    assert_eq!(rt; ended.status, 0);
     let want = joined(alloc, &[ADA, NOT_JSON, ADA], "\n")?;
     assert_eq!(rt; host.inner.taken(), want.as_str().as_bytes());
     Ok(())

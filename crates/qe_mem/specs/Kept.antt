@@ -1,45 +1,54 @@
--- What is kept of a table: the column of its id, its rows in the order of their ids, its counter.
-use Rattle.std.specs.Prelude.{◌≡◌, ℕ, ℤ, pos, List, [], ◌∷◌, ◌++◌, Bool, Option, map, filter, find, slice_get, unwrap_or}
+-- The tables of a schema as they are kept in memory.
+use Rattle.std.specs.Prelude.{◌≡◌, ℕ, ℤ, pos, List, [], ◌∷◌, map, get_or}
 use Rattle.std.specs.List.{AllByRecursion}
-use Rattle.std.specs.Ordering.{is_lt, is_gt}
-use Rattle.std.specs.declared.cmp.Ordering.TheVariants.{Equal}
-use Rattle.qe_base.specs.Values.{value_cmp, value_eq}
+use Rattle.qe_changes.specs.After.{pair_row}
 use Rattle.qe_base.specs.declared.value.Row.{Row}
 use Rattle.qe_base.specs.declared.value.Value.{Value}
+use Rattle.qe_base.specs.declared.schema.Table.{Table}
 use Rattle.qe_tables.specs.Columns.{value_at}
-use Rattle.qe_tables.specs.Put.{raised_to}
+use Rattle.qe_tables.specs.Tables.{Tables, id_columns}
+use Rattle.qe_mem.specs.RowMaps.{no_places}
+use Rattle.qe_mem.specs.declared.tables.MemTable.{MemTable}
 
-pub record Kept : Type 0 where
-  pub column : ℕ
-  pub rows : List Row
-  pub last : ℤ
+-- nothing in it, and ids of these columns
+abbrev pub nothing_kept : List ℕ → MemTable
+nothing_kept columns = record { rows = no_places columns; pairs = no_places (0 ∷ 1 ∷ []); last = pos 0 }
 
--- a table without rows
-abbrev pub none_kept : ℕ → Kept
-none_kept column = record { column = column; rows = []; last = pos 0 }
+-- for a table of the schema
+abbrev pub empty_for : Table → MemTable
+empty_for table = nothing_kept (id_columns table)
 
--- what is kept of a table of this number, and no rows where there is none
-abbrev pub kept_at : List Kept → ℕ → Kept
-kept_at tables table = unwrap_or (slice_get tables table) (none_kept 0)
+-- what is kept of the table of a number, and nothing where there is none
+abbrev pub kept_at : List MemTable → ℕ → MemTable
+kept_at kept table = get_or kept table (nothing_kept [])
 
-abbrev pub rows_in : List (Value × Row) → List Row
-rows_in entries = map (λ entry. entry.1) entries
+-- the two values of a row of a link table
+abbrev pub pair_of : Row → Value × Value
+pair_of row = (value_at row 0, value_at row 1)
 
--- each row stands under its id
-abbrev pub HaveIds : ℕ → List (Value × Row) → Type 0
-HaveIds column entries = AllByRecursion (λ entry. value_cmp entry.0 (value_at entry.1 column) ≡ Equal) entries
+-- the tables that are kept
+abbrev pub tables_of : List MemTable → Tables
+tables_of kept = record { rows = λ table. (kept_at kept table).rows.rows; last = λ table. (kept_at kept table).last; pairs = λ table. map pair_of (kept_at kept table).pairs.rows }
 
-abbrev pub has_id : ℕ → Value → Row → Bool
-has_id column id row = value_eq (value_at row column) id
+-- the columns of the ids in a table, and in its pairs
+abbrev pub columns_of : MemTable → List ℕ × List ℕ
+columns_of table = (table.rows.columns, table.pairs.columns)
 
-abbrev pub row_of_id : ℕ → Value → List Row → Option Row
-row_of_id column id rows = find (has_id column id) rows
+abbrev pub columns_for : Table → List ℕ × List ℕ
+columns_for table = (id_columns table, 0 ∷ 1 ∷ [])
 
--- the rows with this one at its place
-abbrev pub placed : ℕ → Row → List Row → List Row
-placed column row rows =
-    filter (λ other. is_lt (value_cmp (value_at other column) (value_at row column))) rows ++ row ∷ filter (λ other. is_gt (value_cmp (value_at other column) (value_at row column))) rows
+-- the ids are those of these tables
+abbrev pub IsKeptFor : List Table → List MemTable → Type 0
+IsKeptFor tables kept = map columns_of kept ≡ map columns_for tables
 
--- with this row at its place, and the counter raised to its id
-abbrev pub with_row : Row → Kept → Kept
-with_row row kept = record { column = kept.column; rows = placed kept.column row kept.rows; last = raised_to (value_at row kept.column) kept.last }
+-- what a table tells: its rows, its pairs, its counter
+abbrev pub contents_of : MemTable → List Row × List Row × ℤ
+contents_of table = (table.rows.rows, table.pairs.rows, table.last)
+
+-- the row is one of two values
+abbrev pub IsPairRow : Row → Type 0
+IsPairRow row = pair_row (pair_of row) ≡ row
+
+-- the rows of link tables are pairs
+abbrev pub ArePairs : List MemTable → Type 0
+ArePairs kept = AllByRecursion (λ table. AllByRecursion IsPairRow table.pairs.rows) kept

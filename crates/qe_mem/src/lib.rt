@@ -2,10 +2,10 @@
 #![tactic(auto)]
 
 mod connector;
-mod rows;
-mod table;
-#[cfg(test)]
-mod tests;
+mod counts;
+mod row_map;
+mod step;
+mod tables;
 
 pub use connector::MemConnector;
-pub use rows::value_in;
+pub use counts::{CallKind, FailAt};

@@ -1,2 +1,6 @@
+pub mod Carrying
 pub mod Fitting
-pub mod Performing
+pub mod Keyed
+pub mod Leaving
+pub mod Putting
+pub mod Versions

@@ -1,1 +1,4 @@
+pub mod Leaves
 pub mod Performs
+pub mod Puts
+pub mod Refusals

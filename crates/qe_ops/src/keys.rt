@@ -1,13 +1,25 @@
 //! Keys, and the rows that hold their values.
-ghost use Rattle.std.specs.Prelude.{◌≡◌, slice_get, IfOk};
+ghost use Rattle.std.specs.Prelude.{◌≡◌, ◌∷◌, [], ℕ, true, is_some, slice_get, IfOk, IfSome};
 ghost use Rattle.std.specs.List.{list_any};
+ghost use Rattle.psl_rules.specs.Updates.{In};
+ghost use Rattle.qe_base.specs.declared.schema.Key.{Key};
+ghost use Rattle.qe_changes.specs.Right.{can_load, is_row_of};
+ghost use Rattle.qe_schema.specs.Kept.{KeyStands};
 ghost use Rattle.qe_tables.specs.Columns.{at_columns, holds};
+ghost use Rattle.qe_tables.specs.Fits.{fit_columns};
 ghost use Rattle.qe_tables.specs.Put.{broken_key as first_broken_key};
+ghost use Rattle.qe_tables.specs.Tables.{table_at, is_model};
 ghost use Rattle.qe_plain.specs.Plain.{columns_of_key};
-ghost use Rattle.qe_mem.specs.Kept.{kept_at};
+ghost use Rattle.qe_ops.specs.Leaves.{Leaves, counts, fault_in};
+ghost use Rattle.qe_ops.specs.Puts.{row_having};
 
-use qe_base::{Items, Key, Memory, Row, Table, TableId, Value};
-use qe_mem::{MemConnector, value_in};
+use crate::model::table_of;
+use qe_base::{Key, Row, Rows, Table, TableId};
+use qe_changes::ConnFault;
+use qe_rows::{has_null, id_row};
+use qe_schema::Schema;
+use qe_text::Memory;
+use qe_view::View;
 use std::alloc::Global;
 
 /// The columns of a key, none where there is no such key.
@@ -20,29 +32,63 @@ pub fn key_columns(model: &Table, key: u16) -> &[u16]
     }
 }
 
-/// What a row has in these columns.
-fn values_at(alloc: Global, columns: &[u16], row: &Row) -> Result<Items<Value>, Memory>
-    ensures { IfOk result (λ values. values ≡ at_columns columns.now row.now) }
+/// The first of some rows.
+fn first(found: Rows) -> Option<Row>
+    ensures { result ≡ slice_get found.rows 0 }
 {
-    let mut values = Items::new(alloc);
-    for column in columns {
-        values.push(value_in(alloc, row, *column)?)?;
+    let mut rows = found.rows;
+    if rows.is_empty() {
+        None
+    } else {
+        Some(rows.remove(0))
     }
-    Ok(values)
 }
 
-/// Whether a kept row has the values that this one has in the columns, none of them null.
-fn is_held(
-    alloc: Global,
+/// The row of a model that has the values of a key in the columns, if there is one.
+pub fn load<V: View>(
     table: TableId,
     columns: &[u16],
-    row: &Row,
-    tables: &MemConnector,
-) -> Result<bool, Memory>
-    ensures { IfOk result (λ held. held ≡ list_any (holds columns.now (at_columns columns.now row.now)) (kept_at tables.now table.0).rows) }
+    key: Row,
+    view: &mut V,
+) -> Result<Option<Row>, ConnFault>
+    requires stands { V.stands view.old }
+    requires model { is_model (V.schema view.old) table.0 ≡ true }
+    requires can { can_load (V.schema view.old) table.0 columns.now (key ∷ []) ≡ true }
+    ensures row { IfOk result (λ found. IfSome (V.versions view.old).now (λ tables. found ≡ row_having columns.now key.values (tables.rows table.0))) }
+    ensures fits { IfOk result (λ found. IfSome found (λ row. fit_columns (V.schema view.old).choices (table_at (V.schema view.old) table.0).columns row.values ≡ true)) }
+    ensures versions { V.versions view.new ≡ V.versions view.old }
+    ensures schema { V.schema view.new ≡ V.schema view.old }
+    ensures stands { V.stands view.new }
+    ensures leaves { Leaves (V.schema view.old) (is_some (V.versions view.old).now) (counts (V.fault_count view.old) (V.misfit_count view.old) (V.may_fail view.old) (V.calls view.old)) (counts (V.fault_count view.new) (V.misfit_count view.new) (V.may_fail view.new) (V.calls view.new)) (fault_in result) }
 {
-    let values = values_at(alloc, columns, row)?;
-    Ok(tables.find(table, columns, values.as_slice()).is_some())
+    let found = view.load(table, columns, &[key])?;
+    Ok(first(found))
+}
+
+/// Whether a row of a model has the values that this one has in a key's columns, none of them null. Where one
+/// is null, no row is loaded.
+fn is_held<V: View>(
+    alloc: Global,
+    table: TableId,
+    key: &Key,
+    row: &Row,
+    view: &mut V,
+) -> Result<bool, ConnFault>
+    requires stands { V.stands view.old }
+    requires right { is_row_of (V.schema view.old) table.0 row.now ≡ true }
+    requires key { KeyStands (table_at (V.schema view.old) table.0) key.now }
+    ensures held { IfOk result (λ held. IfSome (V.versions view.old).now (λ tables. held ≡ list_any (holds key.now.columns (at_columns key.now.columns row.now)) (tables.rows table.0))) }
+    ensures versions { V.versions view.new ≡ V.versions view.old }
+    ensures schema { V.schema view.new ≡ V.schema view.old }
+    ensures stands { V.stands view.new }
+    ensures leaves { Leaves (V.schema view.old) (is_some (V.versions view.old).now) (counts (V.fault_count view.old) (V.misfit_count view.old) (V.may_fail view.old) (V.calls view.old)) (counts (V.fault_count view.new) (V.misfit_count view.new) (V.may_fail view.new) (V.calls view.new)) (fault_in result) }
+{
+    let columns = key.columns.as_slice();
+    let values = id_row(alloc, columns, row)?;
+    if has_null(values.values.as_slice()) {
+        return Ok(false);
+    }
+    Ok(load(table, columns, values, view)?.is_some())
 }
 
 /// A number as that of a key. Past 65,535 there is no room for it, and no schema's text is long
@@ -56,20 +102,48 @@ fn key_number(number: usize) -> Result<u16, Memory>
     }
 }
 
-/// The first key whose values a kept row has too.
-pub fn broken_key(
+/// The first of the keys whose values a row of the model has too.
+fn first_held<V: View>(
     alloc: Global,
     table: TableId,
     keys: &[Key],
     row: &Row,
-    tables: &MemConnector,
-) -> Result<Option<u16>, Memory>
-    ensures { IfOk result (λ key. key ≡ first_broken_key keys.now 0 row.now (kept_at tables.now table.0).rows) }
+    view: &mut V,
+) -> Result<Option<u16>, ConnFault>
+    requires stands { V.stands view.old }
+    requires right { is_row_of (V.schema view.old) table.0 row.now ≡ true }
+    requires keys { (key : Key) → In key keys.now → KeyStands (table_at (V.schema view.old) table.0) key }
+    ensures key { IfOk result (λ key. IfSome (V.versions view.old).now (λ tables. key ≡ first_broken_key keys.now 0 row.now (tables.rows table.0))) }
+    ensures versions { V.versions view.new ≡ V.versions view.old }
+    ensures schema { V.schema view.new ≡ V.schema view.old }
+    ensures stands { V.stands view.new }
+    ensures leaves { Leaves (V.schema view.old) (is_some (V.versions view.old).now) (counts (V.fault_count view.old) (V.misfit_count view.old) (V.may_fail view.old) (V.calls view.old)) (counts (V.fault_count view.new) (V.misfit_count view.new) (V.may_fail view.new) (V.calls view.new)) (fault_in result) }
 {
     for (number, key) in keys.iter().enumerate() {
-        if is_held(alloc, table, key.columns.as_slice(), row, tables)? {
+        if is_held(alloc, table, key, row, view)? {
             return Ok(Some(key_number(number)?));
         }
     }
     Ok(None)
+}
+
+/// The first key of a model, the id before the others, whose values one of its rows has too.
+pub fn broken_key<V: View>(
+    alloc: Global,
+    schema: &Schema,
+    table: TableId,
+    row: &Row,
+    view: &mut V,
+) -> Result<Option<u16>, ConnFault>
+    requires stands { V.stands view.old }
+    requires schema { V.schema view.old ≡ schema.now }
+    requires right { is_row_of schema.now table.0 row.now ≡ true }
+    ensures key { IfOk result (λ key. IfSome (V.versions view.old).now (λ tables. key ≡ first_broken_key (table_at schema.now table.0).keys 0 row.now (tables.rows table.0))) }
+    ensures versions { V.versions view.new ≡ V.versions view.old }
+    ensures schema { V.schema view.new ≡ V.schema view.old }
+    ensures stands { V.stands view.new }
+    ensures leaves { Leaves (V.schema view.old) (is_some (V.versions view.old).now) (counts (V.fault_count view.old) (V.misfit_count view.old) (V.may_fail view.old) (V.calls view.old)) (counts (V.fault_count view.new) (V.misfit_count view.new) (V.may_fail view.new) (V.calls view.new)) (fault_in result) }
+{
+    let model = table_of(schema, table);
+    first_held(alloc, table, model.keys.as_slice(), row, view)
 }

@@ -1,11 +1,13 @@
-//! Operations over the tables in memory.
+//! Operations over a view of the tables.
 #![tactic(auto)]
 
 mod fill;
 mod keys;
+mod model;
+mod put;
+mod refusal;
 mod run;
 mod shape;
-#[cfg(test)]
-mod tests;
 
+pub use refusal::{Refusal, answered};
 pub use run::run_op;

@@ -1,89 +1,90 @@
 //! Running an operation.
-ghost use Rattle.std.specs.Prelude.{◌≡◌, ◌<◌, ◌≤◌, length, IsTrue};
+ghost use Rattle.std.specs.Prelude.{◌≡◌, ℕ, true, is_some};
 ghost use Rattle.qe_base.specs.declared.answer.Outside.{Outside};
-ghost use Rattle.qe_base.specs.declared.write.Create.{out-Create};
-ghost use Rattle.qe_tables.specs.Tables.{table_at};
-ghost use Rattle.qe_plain.specs.Filled.{filled};
+ghost use Rattle.qe_base.specs.declared.write.Op.TheVariants as op;
 ghost use Rattle.qe_plain.specs.Fits.{op_fits};
-ghost use Rattle.qe_plain.specs.Plain.{plain, shown, row_with};
-ghost use Rattle.qe_mem.specs.Kept.{kept_at};
-ghost use Rattle.qe_ops.specs.Performs.{tables_of, IsKeptFor, Performs, Finds, Creates};
+ghost use Rattle.qe_plain.specs.Plain.{plain};
+ghost use Rattle.qe_ops.specs.Leaves.{Leaves, counts};
+ghost use Rattle.qe_ops.specs.Performs.{Carries, Performs};
+ghost use Rattle.qe_ops.specs.Refusals.{TellsCounts, fault_of, fault_told};
 
 use crate::fill::fill;
-use crate::keys::{broken_key, key_columns};
+use crate::keys::{key_columns, load};
+use crate::model::table_of;
+use crate::put::put_row;
+use crate::refusal::{Refusal, answered};
 use crate::shape::shape;
-use qe_base::{Answer, Create, Op, OpFault, Pick, Rule, Table, TableId, Unique};
-use qe_mem::MemConnector;
+use qe_base::{Answer, Create, Op, OpFault, Pick, Rule, TableId, Unique};
 use qe_schema::Schema;
+use qe_view::View;
 use std::alloc::Global;
 
 /// The row that a unique asks for as an answer, or what is answered where there is none.
-pub fn find(
+fn find<V: View>(
     alloc: Global,
+    schema: &Schema,
     table: TableId,
-    model: &Table,
     at: &Unique,
     strict: bool,
     pick: &Pick,
-    tables: &MemConnector,
-) -> Result<Answer, OpFault>
-    ensures { Finds (shown model.now table.0 strict pick.now (row_with model.now at.now (kept_at tables.now table.0).rows)) result }
+    view: &mut V,
+) -> Result<Answer, Refusal>
+    requires stands { V.stands view.old }
+    requires schema { V.schema view.old ≡ schema.now }
+    requires fits { op_fits schema.now (op.FindUnique table at.now strict pick.now) ≡ true }
+    ensures carries { (outside : Outside) → Carries (plain schema.now (op.FindUnique table at.now strict pick.now) outside) (V.versions view.old) (V.versions view.new) result }
+    ensures schema { V.schema view.new ≡ V.schema view.old }
+    ensures stands { V.stands view.new }
+    ensures leaves { Leaves (V.schema view.old) (is_some (V.versions view.old).now) (counts (V.fault_count view.old) (V.misfit_count view.old) (V.may_fail view.old) (V.calls view.old)) (counts (V.fault_count view.new) (V.misfit_count view.new) (V.may_fail view.new) (V.calls view.new)) (fault_of result) }
 {
+    let model = table_of(schema, table);
     let columns = key_columns(model, at.key);
-    match tables.find(table, columns, at.values.values.as_slice()) {
-        Some(row) => Ok(shape(alloc, model, pick, row)?),
-        None if strict => Err(OpFault::Rule(Rule::Absent { table })),
+    let key = at.values.copy(alloc)?;
+    match load(table, columns, key, view)? {
+        Some(row) => Ok(shape(alloc, model, pick, &row)?),
+        None if strict => Err(Refusal::Rule(Rule::Absent { table })),
         None => Ok(Answer::Null),
     }
 }
 
-/// A new row, kept and answered. Where a row holds one of its keys it is refused, and nothing
-/// changes.
-pub fn create(
+/// A new row, put and answered. Where a row holds one of its keys it is refused, and nothing changes.
+fn create<V: View>(
     alloc: Global,
+    schema: &Schema,
     table: TableId,
-    model: &Table,
     tree: &Create,
     pick: &Pick,
-    tables: &mut MemConnector,
-) -> Result<Answer, OpFault>
-    requires few { length model.now.columns ≤ 128 }
-    requires kept { table.0 < length tables.old }
-    ensures { Creates model.now table.0 pick.now (filled model.now.columns (out-Create tree.now).values) tables.old result tables.new }
+    view: &mut V,
+) -> Result<Answer, Refusal>
+    requires stands { V.stands view.old }
+    requires schema { V.schema view.old ≡ schema.now }
+    requires fits { op_fits schema.now (op.Create table tree.now pick.now) ≡ true }
+    ensures carries { (outside : Outside) → Carries (plain schema.now (op.Create table tree.now pick.now) outside) (V.versions view.old) (V.versions view.new) result }
+    ensures schema { V.schema view.new ≡ V.schema view.old }
+    ensures stands { V.stands view.new }
+    ensures leaves { Leaves (V.schema view.old) (is_some (V.versions view.old).now) (counts (V.fault_count view.old) (V.misfit_count view.old) (V.may_fail view.old) (V.calls view.old)) (counts (V.fault_count view.new) (V.misfit_count view.new) (V.may_fail view.new) (V.calls view.new)) (fault_of result) }
 {
+    let model = table_of(schema, table);
     let row = fill(alloc, model.columns.as_slice(), tree.values.as_slice())?;
     let answer = shape(alloc, model, pick, &row)?;
-    match broken_key(alloc, table, model.keys.as_slice(), &row, tables)? {
-        Some(key) => Err(OpFault::Rule(Rule::Unique { table, key })),
-        None => {
-            tables.put(table, row)?;
-            Ok(answer)
-        }
-    }
+    put_row(alloc, schema, table, row, view)?;
+    Ok(answer)
 }
 
-/// A table of the schema.
-fn table_of(schema: &Schema, table: TableId) -> &Table
-    requires { table.0 < length schema.now.tables }
-    ensures table { result.now ≡ table_at schema.now table.0 }
-    ensures few { length result.now.columns ≤ 128 }
-{
-    schema.is_accepted();
-    schema.table(table).unwrap()
-}
-
-/// Runs an operation that fits the schema, over tables that are kept for it. It answers, and makes of
-/// the tables, what the documented rules say; a refusal leaves them.
-pub fn run_op(
+/// Carries out an operation, or says why not.
+fn carry_out<V: View>(
     alloc: Global,
     schema: &Schema,
     op: &Op,
-    tables: &mut MemConnector,
-) -> Result<Answer, OpFault>
-    requires fits { IsTrue (op_fits schema.now op.now) }
-    requires kept { IsKeptFor schema.now tables.old }
-    ensures performs { (outside : Outside) → Performs (plain schema.now op.now outside (tables_of tables.old)) (tables_of tables.old) result (tables_of tables.new) }
-    ensures kept { IsKeptFor schema.now tables.new }
+    view: &mut V,
+) -> Result<Answer, Refusal>
+    requires stands { V.stands view.old }
+    requires schema { V.schema view.old ≡ schema.now }
+    requires fits { op_fits schema.now op.now ≡ true }
+    ensures carries { (outside : Outside) → Carries (plain schema.now op.now outside) (V.versions view.old) (V.versions view.new) result }
+    ensures schema { V.schema view.new ≡ V.schema view.old }
+    ensures stands { V.stands view.new }
+    ensures leaves { Leaves (V.schema view.old) (is_some (V.versions view.old).now) (counts (V.fault_count view.old) (V.misfit_count view.old) (V.may_fail view.old) (V.calls view.old)) (counts (V.fault_count view.new) (V.misfit_count view.new) (V.may_fail view.new) (V.calls view.new)) (fault_of result) }
 {
     match op {
         Op::FindUnique {
@@ -91,14 +92,32 @@ pub fn run_op(
             at,
             strict,
             pick,
-        } => {
-            let model = table_of(schema, *table);
-            find(alloc, *table, model, at, *strict, pick, tables)
-        }
-        Op::Create { table, tree, pick } => {
-            let model = table_of(schema, *table);
-            create(alloc, *table, model, tree, pick, tables)
-        }
+        } => find(alloc, schema, *table, at, *strict, pick, view),
+        Op::Create { table, tree, pick } => create(alloc, schema, *table, tree, pick, view),
         _ => unreachable!(),
+    }
+}
+
+/// Runs an operation that fits the schema over a view of its tables. It answers, and makes of the tables,
+/// what the documented rules say; after a refusal the tables are as before, and so is what can be taken back.
+pub fn run_op<V: View>(
+    alloc: Global,
+    schema: &Schema,
+    op: &Op,
+    view: &mut V,
+) -> Result<Answer, OpFault>
+    requires stands { V.stands view.old }
+    requires schema { V.schema view.old ≡ schema.now }
+    requires fits { op_fits schema.now op.now ≡ true }
+    ensures performs { (outside : Outside) → Performs (plain schema.now op.now outside) (V.versions view.old) (V.versions view.new) result }
+    ensures schema { V.schema view.new ≡ V.schema view.old }
+    ensures stands { V.stands view.new }
+    ensures leaves { Leaves (V.schema view.old) (is_some (V.versions view.old).now) (counts (V.fault_count view.old) (V.misfit_count view.old) (V.may_fail view.old) (V.calls view.old)) (counts (V.fault_count view.new) (V.misfit_count view.new) (V.may_fail view.new) (V.calls view.new)) (fault_told result) }
+    ensures counts { TellsCounts (V.fault_count view.old) (V.fault_count view.new) result }
+{
+    let before = view.faults();
+    match carry_out(alloc, schema, op, view) {
+        Ok(answer) => Ok(answer),
+        Err(refusal) => Err(answered(refusal, before, view.faults())),
     }
 }

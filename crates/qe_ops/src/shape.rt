@@ -3,7 +3,7 @@ ghost use Rattle.std.specs.Prelude.{◌≡◌, IfOk, slice_get};
 ghost use Rattle.qe_plain.specs.Shape.{scalar_of, shape_of};
 
 use qe_base::{Answer, Items, Memory, Pick, Row, Table, Text};
-use qe_mem::value_in;
+use qe_rows::value_in;
 use std::alloc::Global;
 
 /// The value in a column, by the column's name.

@@ -1,5 +1,5 @@
 -- Laying rows together, one after another.
-use Rattle.std.proofs.Common.{◌≡◌, ℕ, List, [], ◌∷◌, ◌++◌, map, filter, Option, Some, None, Bool, true, false, cond, not, refl, sym, ap, ◌∙◌, is_some}
+use Rattle.std.proofs.Common.{◌≡◌, List, [], ◌∷◌, ◌++◌, filter, Option, Some, None, Bool, true, false, cond, not, refl, sym, ap, ◌∙◌, is_some}
 use Rattle.std.specs.BTreeMap.{insert_entry, is_at}
 use Rattle.std.specs.Map.{values_of, lookup}
 use Rattle.std.proofs.lemmas.List.{append_assoc}

@@ -1,9 +1,14 @@
 pub mod Equal
+pub mod Ids
 pub mod Laying
 pub mod Maps
+pub mod Narrowing
 pub mod Pairs
 pub mod Rows
 pub mod Seen
+pub mod Settling
+pub mod Shapes
 pub mod Starting
+pub mod Steps
 pub mod Undoing
 pub mod Views

@@ -1,5 +1,5 @@
 -- The pairs of a link table as rows.
-use Rattle.std.proofs.Common.{◌≡◌, ℕ, List, [], ◌∷◌, ◌++◌, map, filter, Option, Some, None, Bool, true, false, cond, not, ◌&&◌, refl, sym, ap, subst, ◌∙◌, Ordering, Less, Equal, Greater}
+use Rattle.std.proofs.Common.{◌≡◌, List, [], ◌∷◌, ◌++◌, map, filter, Option, Some, None, Bool, true, false, cond, not, ◌&&◌, refl, sym, ap, ◌∙◌, Ordering, Less, Equal, Greater}
 use Rattle.std.specs.Prelude.{IfSome}
 use Rattle.std.specs.List.{AllByRecursion}
 use Rattle.std.specs.List.Sorted.{IsStrictlySortedBy}
@@ -11,14 +11,14 @@ use Rattle.qe_base.specs.ValueOrder.{value_eq_equivalence}
 use Rattle.qe_base.specs.declared.schema.Table.{Table}
 use Rattle.qe_base.specs.declared.value.Row.{Row}
 use Rattle.qe_base.specs.declared.value.Value.{Value}
-use Rattle.qe_tables.specs.Columns.{Values, are_same, at_columns, values_cmp}
+use Rattle.qe_tables.specs.Columns.{are_same, at_columns, values_cmp}
 use Rattle.qe_tables.specs.Pairs.{pair_cmp, is_pair, with_pair, without_pair, PairsAscend, both_values}
 use Rattle.qe_tables.specs.Put.{put_among}
 use Rattle.qe_tables.specs.Tables.{id_columns, id_of}
 use Rattle.qe_changes.specs.After.{pair_row, without_id}
-use Rattle.qe_overlay.specs.Laid.{id_row, untouched}
+use Rattle.qe_overlay.specs.Laid.{id_row}
 use Rattle.qe_overlay.specs.Layers.{Entry, rows_and, present, is_entered, put_all, over_rows, pair_of, link_all, over_pairs}
-use Rattle.qe_overlay.proofs.Rows.{keyed, Sorted, OwnId, OwnIds, SortedEntries, put_seen, remove_seen}
+use Rattle.qe_overlay.proofs.Rows.{keyed, Sorted, OwnIds, SortedEntries, put_seen, remove_seen}
 
 abbrev pub Pairs : Type 0
 Pairs = List (Value × Value)

@@ -1,11 +1,11 @@
 -- Rows in the order of their ids, seen through entries.
-use Rattle.std.proofs.Common.{◌≡◌, ℕ, List, [], ◌∷◌, ◌++◌, map, filter, Option, Some, None, Bool, true, false, cond, not, ◌||◌, ◌&&◌, refl, sym, ap, subst, ◌∙◌, Ordering, Less, Equal, Greater, is_eq, is_some}
+use Rattle.std.proofs.Common.{◌≡◌, List, [], ◌∷◌, ◌++◌, map, filter, Option, Some, None, Bool, true, false, cond, not, ◌||◌, ◌&&◌, refl, sym, ap, subst, ◌∙◌, Ordering, Less, Equal, Greater, is_eq, is_some}
 use Rattle.std.specs.Prelude.{unwrap_or, IfSome}
-use Rattle.std.specs.List.{AllByRecursion, list_any, list_all}
+use Rattle.std.specs.List.{AllByRecursion, list_all}
 use Rattle.std.specs.List.Sorted.{IsStrictlySortedBy}
 use Rattle.std.specs.Map.{keys_of, values_of, lookup}
 use Rattle.std.specs.Ordering.{is_lt, is_gt, match_ordering}
-use Rattle.std.specs.Cmp.{IsTotalOrder, eq_by_cmp_equiv}
+use Rattle.std.specs.Cmp.{eq_by_cmp_equiv}
 use Rattle.std.specs.BTreeMap.{insert_entry, is_at}
 use Rattle.std.proofs.lemmas.Bool.{and_parts}
 use Rattle.std.proofs.lemmas.Map.Entries.{lookup-filter-keys, lookup-filter-values, option_filter}
@@ -15,7 +15,7 @@ use Rattle.qe_base.specs.Values.{row_cmp}
 use Rattle.qe_base.specs.ValueOrder.{row_cmp_total}
 use Rattle.qe_base.specs.declared.schema.Table.{Table}
 use Rattle.qe_base.specs.declared.value.Row.{Row}
-use Rattle.qe_tables.specs.Columns.{Values, are_same, values_cmp}
+use Rattle.qe_tables.specs.Columns.{are_same, values_cmp}
 use Rattle.qe_tables.specs.Fits.{Ascending}
 use Rattle.qe_tables.specs.Put.{put_among}
 use Rattle.qe_tables.specs.Tables.{id_of}
@@ -42,7 +42,7 @@ OwnIds table entries = AllByRecursion (OwnId table) entries
 abbrev pub SortedEntries : List Entry → Type 0
 SortedEntries entries = IsStrictlySortedBy row_cmp (keys_of entries)
 
-abbrev at : {X : Type 0} → Row → List (Row × X) → Option X
+abbrev pub at : {X : Type 0} → Row → List (Row × X) → Option X
 at q entries = lookup (is_at (row_cmp q)) entries
 
 -- ---- rows under their ids
@@ -88,7 +88,7 @@ pub sorted-put_all : (table : Table) (all rows : List Row) → Sorted table rows
 sorted-put_all table [] rows sorted = sorted
 sorted-put_all table (row ∷ all) rows sorted = sorted-put_among table row (put_all table all rows) (sorted-put_all table all rows sorted)
 
-found-put_among : (table : Table) (row : Row) (rows : List Row) (q : Row) → Sorted table rows → at q (keyed table (put_among table row rows)) ≡ cond (is_eq (row_cmp q (id_row table row))) (Some row) (at q (keyed table rows))
+pub found-put_among : (table : Table) (row : Row) (rows : List Row) (q : Row) → Sorted table rows → at q (keyed table (put_among table row rows)) ≡ cond (is_eq (row_cmp q (id_row table row))) (Some row) (at q (keyed table rows))
 found-put_among table row rows q sorted = ap (at q) (keyed-put_among table row rows sorted) ∙ lookup-insert_entry row_cmp_total q (id_row table row) row (keyed table rows)
 
 sorted-filter-ids : (table : Table) (p : Row → Bool) (rows : List Row) → Sorted table rows → Sorted table (filter (λ row. p (id_row table row)) rows)
@@ -122,12 +122,12 @@ entered_is [] q = refl
 entered_is (e ∷ entries) q =
     (λ i. (same_as_rows e.0 q ∙ same_back row_cmp_total e.0 q) i || entered_is entries q i) ∙ entered_or (is_eq (row_cmp q e.0)) e.1 (at q entries)
 
-abbrev put_over : Option (Option Row) → Option Row → Option Row
+abbrev pub put_over : Option (Option Row) → Option Row → Option Row
 put_over None below = below
 put_over (Some None) below = below
 put_over (Some (Some row)) below = Some row
 
-over_none : (b : Bool) (o : Option (Option Row)) (below : Option Row) → (b ≡ true → o ≡ None) → put_over o below ≡ put_over (cond b (Some None) o) below
+pub over_none : (b : Bool) (o : Option (Option Row)) (below : Option Row) → (b ≡ true → o ≡ None) → put_over o below ≡ put_over (cond b (Some None) o) below
 over_none true o below none = ap (λ x. put_over x below) (none refl)
 over_none false o below none = refl
 
@@ -136,10 +136,10 @@ over_some true row o below = refl
 over_some false row o below = refl
 
 -- behind an entry none of its id follows
-behind : (e : Entry) (entries : List Entry) (q : Row) → SortedEntries (e ∷ entries) → is_eq (row_cmp q e.0) ≡ true → at q entries ≡ None
+pub behind : (e : Entry) (entries : List Entry) (q : Row) → SortedEntries (e ∷ entries) → is_eq (row_cmp q e.0) ≡ true → at q entries ≡ None
 behind e entries q sorted same = found_behind row_cmp_total e entries q (row_cmp q e.0) refl sorted ∙ ap (λ b. cond b None (at q (e ∷ entries))) same
 
-abbrev tail_sorted : (e : Entry) (entries : List Entry) → SortedEntries (e ∷ entries) → SortedEntries entries
+abbrev pub tail_sorted : (e : Entry) (entries : List Entry) → SortedEntries (e ∷ entries) → SortedEntries entries
 unfolding IsStrictlySortedBy
 tail_sorted e entries sorted = sorted.1
 
@@ -147,10 +147,10 @@ abbrev head_sorted : (e : Entry) (entries : List Entry) → SortedEntries (e ∷
 unfolding IsStrictlySortedBy
 head_sorted e entries sorted = sorted.0
 
-own_key : (table : Table) (id row : Row) → id_of table row ≡ id.values → id_row table row ≡ id
+pub own_key : (table : Table) (id row : Row) → id_of table row ≡ id.values → id_row table row ≡ id
 own_key table id row own = λ i. record { values = own i }
 
-found_over_present : (table : Table) (entries : List Entry) (rows : List Row) (q : Row) → SortedEntries entries → OwnIds table entries → Sorted table rows
+pub found_over_present : (table : Table) (entries : List Entry) (rows : List Row) (q : Row) → SortedEntries entries → OwnIds table entries → Sorted table rows
     → at q (keyed table (put_all table (present entries) rows)) ≡ put_over (at q entries) (at q (keyed table rows))
 found_over_present table [] rows q sorted own below = refl
 found_over_present table (e ∷ entries) rows q sorted own below = by_now e.1 own.0 (λ s. behind e entries q sorted s) (found_over_present table entries rows q (tail_sorted e entries sorted) own.1 below)
@@ -169,10 +169,10 @@ over_whole None below = refl
 over_whole (Some None) below = refl
 over_whole (Some (Some row)) below = refl
 
-sorted-untouched : (table : Table) (entries : List Entry) (rows : List Row) → Sorted table rows → Sorted table (untouched table entries rows)
+pub sorted-untouched : (table : Table) (entries : List Entry) (rows : List Row) → Sorted table rows → Sorted table (untouched table entries rows)
 sorted-untouched table entries rows sorted = sorted-filter-ids table (λ k. not (is_entered entries k.values)) rows sorted
 
-found-untouched : (table : Table) (entries : List Entry) (rows : List Row) (q : Row) → at q (keyed table (untouched table entries rows)) ≡ cond (not (is_some (at q entries))) (at q (keyed table rows)) None
+pub found-untouched : (table : Table) (entries : List Entry) (rows : List Row) (q : Row) → at q (keyed table (untouched table entries rows)) ≡ cond (not (is_some (at q entries))) (at q (keyed table rows)) None
 found-untouched table entries rows q = found-filter-ids table (λ k. not (is_entered entries k.values)) rows q ∙ ap (λ b. cond (not b) (at q (keyed table rows)) None) (entered_is entries q)
 
 pub sorted_over : (table : Table) (entries : List Entry) (rows : List Row) → Sorted table rows → Sorted table (over_rows table entries rows)
@@ -259,7 +259,7 @@ sorted-put_in : (table : Table) (rows : List Row) (laid : List (Row × Row)) →
 sorted-put_in table [] laid sorted = sorted
 sorted-put_in table (row ∷ rows) laid sorted = sorted-insert_entry row_cmp_total (id_row table row) row (put_in table rows laid) (sorted-put_in table rows laid sorted)
 
-abbrev flat : Option (Option Row) → Option Row
+abbrev pub flat : Option (Option Row) → Option Row
 flat None = None
 flat (Some now) = now
 

@@ -1,18 +1,13 @@
 -- Changes of layers, and of the tables seen through them.
-use Rattle.std.proofs.Common.{◌≡◌, ◌<◌, ℕ, zero, suc, ℤ, pos, List, [], ◌∷◌, ◌++◌, map, filter, Option, Some, None, Bool, true, false, cond, not, ◌&&◌, refl, sym, ap, subst, ◌∙◌, true≢false, length, slice_get}
-use Rattle.std.specs.Prelude.{unwrap_or, IfSome, ◌==◌, int_lt}
-use Rattle.std.specs.Int.{int_max}
+use Rattle.std.proofs.Common.{◌≡◌, ℕ, zero, suc, ℤ, pos, List, [], ◌∷◌, ◌++◌, map, Option, Some, None, Bool, true, false, cond, not, refl, sym, ap, subst, ◌∙◌, true≢false, slice_get}
+use Rattle.std.specs.Prelude.{unwrap_or, IfSome, ◌==◌}
 use Rattle.std.specs.List.{AllByRecursion}
-use Rattle.std.specs.List.Sorted.{IsStrictlySortedBy}
-use Rattle.std.specs.Map.{keys_of}
-use Rattle.std.specs.BTreeMap.{insert_entry}
-use Rattle.std.proofs.lemmas.Bool.{and_parts, and_from, eqb-true, eq-eqb}
+use Rattle.std.proofs.lemmas.Bool.{and_parts, eqb-true, eq-eqb}
 use Rattle.psl_text.specs.declared.tree.Block.{Block}
 use Rattle.psl_text.specs.declared.tree.Tree.{Tree}
 use Rattle.psl_rules.specs.Parts.{models}
 use Rattle.psl_rules.specs.Relations.{Pair}
 use Rattle.psl_rules.specs.Stored.{linked}
-use Rattle.qe_base.specs.Values.{row_cmp}
 use Rattle.qe_base.specs.ValueOrder.{row_cmp_total}
 use Rattle.qe_base.specs.declared.schema.Column.{Column}
 use Rattle.qe_base.specs.declared.schema.Table.{Table}
@@ -20,7 +15,7 @@ use Rattle.qe_base.specs.declared.value.Row.{Row}
 use Rattle.qe_base.specs.declared.value.TableId.{TableId}
 use Rattle.qe_base.specs.declared.value.Value.{Value}
 use Rattle.qe_schema.specs.Schemas.{Schema}
-use Rattle.qe_schema.specs.SchemaOf.{IsSchema, schema_of, tables_of, table_of, link_table}
+use Rattle.qe_schema.specs.SchemaOf.{IsSchema, table_of, link_table}
 use Rattle.qe_tables.specs.Fits.{FitsSchema}
 use Rattle.qe_tables.specs.Pairs.{with_pair, without_pair}
 use Rattle.qe_tables.specs.Put.{put_among}
@@ -29,11 +24,11 @@ use Rattle.qe_changes.specs.After.{after, pair_row, without_id}
 use Rattle.qe_changes.specs.Right.{is_row_of, is_id_of, is_pair_of, is_last_of}
 use Rattle.qe_changes.specs.declared.Change.TheVariants as change
 use Rattle.qe_overlay.specs.Fits.{IsRowAt, IsPairRow, FitsAs, FitsEntry, LayersFit}
-use Rattle.qe_overlay.specs.Held.{with_layer, with_entry, with_raised, raised_over}
+use Rattle.qe_overlay.specs.Held.{with_layer, with_entry}
 use Rattle.qe_overlay.specs.Laid.{id_row}
-use Rattle.qe_overlay.specs.Layers.{Entry, Layer, Layers, over_rows, over_pairs, over_last, pair_of, seen}
+use Rattle.qe_overlay.specs.Layers.{Entry, Layer, Layers, over_rows, over_pairs, over_last, seen}
 use Rattle.qe_overlay.proofs.Maps.{sorted-insert_entry}
-use Rattle.qe_overlay.proofs.Rows.{OwnId, OwnIds, SortedEntries, Sorted, sorted_from, all-insert_entry, put_seen, remove_seen}
+use Rattle.qe_overlay.proofs.Rows.{OwnIds, SortedEntries, sorted_from, all-insert_entry, put_seen, remove_seen}
 use Rattle.qe_overlay.proofs.Pairs.{PairEntry, link_seen, unlink_seen}
 
 -- ---- link tables

@@ -1,16 +1,14 @@
 -- An overlay without changes.
-use Rattle.std.proofs.Common.{◌≡◌, ℕ, List, [], ◌∷◌, filter, Option, Some, None, Bool, true, false, cond, refl, ap, subst, sym}
+use Rattle.std.proofs.Common.{◌≡◌, List, [], ◌∷◌, filter, Option, Some, None, Bool, true, false, cond, refl, ap, subst, sym}
 use Rattle.std.specs.Prelude.{IfSome}
 use Rattle.std.specs.List.Sorted.{IsStrictlySortedBy}
 use Rattle.qe_schema.specs.Schemas.{Schema}
-use Rattle.qe_schema.specs.SchemaOf.{IsSchema}
 use Rattle.qe_tables.specs.Fits.{FitsSchema}
 use Rattle.qe_tables.specs.Tables.{Tables, table_at, is_link}
 use Rattle.qe_view.specs.Attached.{FitLayout}
-use Rattle.qe_view.specs.Layouts.{Layout, layout_of}
-use Rattle.qe_overlay.specs.Fits.{LayersFit, FitOver, Stands, HaveIds, EmptyStands}
-use Rattle.qe_overlay.specs.Held.{held_in, none_kept, layers_in}
-use Rattle.qe_overlay.specs.Layers.{Layer, Layers, no_layer, over_rows, over_pairs, seen}
+use Rattle.qe_overlay.specs.Fits.{LayersFit, EmptyStands}
+use Rattle.qe_overlay.specs.Held.{layers_in}
+use Rattle.qe_overlay.specs.Layers.{over_rows, over_pairs, seen}
 use Rattle.qe_overlay.proofs.Seen.{tables_same}
 use Rattle.qe_overlay.proofs.Views.{below_fits}
 
@@ -37,9 +35,8 @@ unfolding IsStrictlySortedBy
 none_fit schema = record { order = λ t. tt; entries = λ t. tt; counters = λ t. tt }
 
 pub empty_stands : EmptyStands
-empty_stands schema attached told accepted ids is below = record {
+empty_stands schema attached told accepted is below = record {
   accepted = accepted;
-  ids = ids;
   attached_is = is;
   below = below;
   now = (none_fit schema, by_told told below);

@@ -1,5 +1,5 @@
 -- Taking changes back.
-use Rattle.std.proofs.Common.{◌≡◌, ◌≤◌, ◌<◌, ◌+◌, ℕ, zero, suc, ℤ, List, [], ◌∷◌, ◌++◌, length, take, slice_get, slice_set, slice_index_or, true≢false, Option, Some, None, Bool, true, false, cond, refl, sym, ap, ◌∙◌, subst, Ordering, Less, Equal, Greater, is_eq, arith}
+use Rattle.std.proofs.Common.{◌≡◌, ◌≤◌, ◌<◌, ℕ, zero, suc, ℤ, List, [], ◌∷◌, ◌++◌, length, take, slice_get, slice_set, slice_index_or, true≢false, Option, Some, None, Bool, true, false, cond, refl, sym, ap, ◌∙◌, subst, Ordering, Less, Equal, Greater, is_eq, arith}
 use Rattle.std.specs.Prelude.{unwrap_or, ◌==◌}
 use Rattle.std.specs.List.{AllByRecursion}
 use Rattle.std.specs.List.Sorted.{IsStrictlySortedBy}
@@ -15,7 +15,7 @@ use Rattle.qe_base.specs.ValueOrder.{row_cmp_total}
 use Rattle.qe_base.specs.declared.value.Row.{Row}
 use Rattle.qe_base.specs.declared.value.TableId.{TableId}
 use Rattle.qe_overlay.specs.Layers.{Entry, Layer, Layers, no_layer}
-use Rattle.qe_overlay.specs.Held.{Held, Kept, layers_in, with_layer, entry_at, with_entry, with_raised, raised_over, with_before, with_last, last_before, undone, all_undone, past_of, held_in, changed_to, entered, raised, GoesBack}
+use Rattle.qe_overlay.specs.Held.{Held, Kept, layers_in, with_layer, entry_at, with_entry, with_raised, with_before, with_last, undone, all_undone, past_of, held_in, changed_to, entered, raised, GoesBack}
 use Rattle.qe_overlay.specs.declared.overlay.Undo.{Undo}
 use Rattle.qe_overlay.specs.declared.overlay.Undo.TheVariants.{Entered, Raised}
 
@@ -156,7 +156,7 @@ set_at layers table layer t within = by_number (t == table) refl
     by_number true same = ap (λ n. unwrap_or (slice_get (slice_set layers table layer) n) no_layer) (eqb-true t table same) ∙ set_here layers table layer within
     by_number false same = set_there layers table layer t (λ is. true≢false (sym (eq-eqb t table is) ∙ same))
 
-shown_layer : (layers : List Layer) (table : ℕ) (layer : Layer) → table < length layers → slice_index_or layers table layer ≡ layers_in layers table
+pub shown_layer : (layers : List Layer) (table : ℕ) (layer : Layer) → table < length layers → slice_index_or layers table layer ≡ layers_in layers table
 shown_layer [] table layer within = absurd (omega arith)
 shown_layer (first ∷ layers) zero layer within = refl
 shown_layer (first ∷ layers) (suc table) layer within = shown_layer layers table layer (omega arith)

@@ -1,5 +1,5 @@
 -- The calls of a view, by what stands.
-use Rattle.std.proofs.Common.{◌≡◌, ◌<◌, ◌≤◌, ◌⊎◌, inl, inr, ℕ, zero, suc, ℤ, pos, List, [], ◌∷◌, ◌++◌, map, filter, take, slice_get, Option, Some, None, Bool, true, false, cond, not, ◌&&◌, refl, sym, ap, subst, ◌∙◌, true≢false, length, arith}
+use Rattle.std.proofs.Common.{◌≡◌, inl, inr, ℕ, zero, suc, ℤ, pos, List, [], ◌∷◌, ◌++◌, map, filter, take, slice_get, Option, Some, None, Bool, true, false, cond, not, ◌&&◌, refl, sym, ap, subst, ◌∙◌, true≢false, length, arith}
 use Rattle.std.specs.Prelude.{unwrap_or, IfSome, option_map, int_lt, nat_lt}
 use Rattle.std.specs.Int.{int_max}
 use Rattle.std.specs.List.{AllByRecursion, list_all}
@@ -15,21 +15,22 @@ use Rattle.qe_schema.specs.Schemas.{Schema}
 use Rattle.qe_schema.specs.SchemaOf.{IsSchema}
 use Rattle.qe_tables.specs.Columns.{is_null, at_columns}
 use Rattle.qe_tables.specs.Fits.{FitsSchema, fit_columns, fits_column}
-use Rattle.qe_tables.specs.Tables.{Tables, no_rows, table_at, is_model, is_model_table, is_link, is_link_table, id_columns, id_of}
+use Rattle.qe_tables.specs.Tables.{Tables, no_rows, table_at, is_model, is_model_table, is_link, is_link_table, id_columns}
 use Rattle.qe_base.specs.declared.value.TableId.{TableId}
 use Rattle.qe_changes.specs.After.{after as after_change, rows_in, rows_at, is_wanted, pair_row}
 use Rattle.qe_changes.specs.Right.{has_table, is_row_of, is_id_of, is_pair_of, is_last_of, are_values_of}
 use Rattle.qe_changes.specs.declared.Change.TheVariants as change
 use Rattle.qe_view.specs.Attached.{FitLayout, shapes_of, OfShapes}
 use Rattle.qe_view.specs.Layouts.{Layout, layout_of}
-use Rattle.qe_view.specs.Versions.{Versions, LeadsToFit, changed, GoesBack as VersionsGoBack}
-use Rattle.qe_overlay.specs.Fits.{IsRowAt, FitsAs, FitsEntry, LayersFit, FitOver, versions_over, Stands, LiesOver}
+use Rattle.qe_view.specs.Versions.{LeadsToFit, changed, GoesBack as VersionsGoBack}
+use Rattle.qe_overlay.specs.Fits.{FitsAs, FitsEntry, LayersFit, FitOver, versions_over, Stands, LiesOver}
 use Rattle.qe_overlay.specs.Held.{Held, changed_to, entered, raised, raised_over, with_raised, with_layer, with_entry, GoesBack}
 use Rattle.qe_overlay.specs.Laid.{id_row, laid_over}
-use Rattle.qe_overlay.specs.Layers.{Entry, Layers, rows_and, present, is_entered, over_rows, over_pairs, over_last, pair_of, seen}
+use Rattle.qe_overlay.specs.Layers.{Entry, Layers, rows_and, present, over_rows, over_pairs, over_last, pair_of, seen}
+use Rattle.qe_overlay.proofs.Ids.{have_ids}
 use Rattle.qe_overlay.proofs.Pairs.{as_rows, over_as_rows, pairs_sorted, pairs_own}
 use Rattle.qe_overlay.proofs.Rows.{Sorted, OwnIds, sorted_from, laid_seen, all_laid}
-use Rattle.qe_overlay.proofs.Seen.{LinkShape, link_shape, model_not_link, entries_own, entries_pairs, put_fits, remove_fits, link_fits, unlink_fits, last_changed, still_fit, put_is, remove_is, link_is, unlink_is}
+use Rattle.qe_overlay.proofs.Seen.{link_shape, entries_own, entries_pairs, put_fits, remove_fits, link_fits, unlink_fits, last_changed, still_fit, put_is, remove_is, link_is, unlink_is}
 
 -- tables that fit the layout of a schema fit it
 pub shapes_fit : (schema : Schema) (tables : Tables) → FitsSchema (shapes_of (layout_of schema)) tables → FitsSchema schema tables
@@ -66,7 +67,7 @@ module _ (schema : Schema) (attached : Option Layout) (held after : Held) (layer
   pub versions_changed : (told : Option Tables) → Stands schema attached told held → versions_over schema told after ≡ changed f (versions_over schema told held)
   versions_changed told stands =
       ap (versions_over schema told) is
-      ∙ (λ i. record { now = now_is told stands i; past = map-push (λ layers. option_map (seen schema layers) told) held.past held.layers i })
+      ∙ (λ i. record { now = now_is told stands i; past = map-push (λ layers. option_map (seen schema layers) told) held.past held.layers i; below = told })
 
   fit_over : (told : Option Tables) → Stands schema attached told held → LeadsToFit schema f (option_map (seen schema held.layers) told) → FitOver schema told layers
   fit_over None stands fits = (fit, tt)
@@ -75,7 +76,6 @@ module _ (schema : Schema) (attached : Option Layout) (held after : Held) (layer
   pub change_stands : (told : Option Tables) → Stands schema attached told held → LeadsToFit schema f (option_map (seen schema held.layers) told) → Stands schema attached told after
   change_stands told stands fits = subst (Stands schema attached told) (sym is) (record {
     accepted = stands.accepted;
-    ids = stands.ids;
     attached_is = stands.attached_is;
     below = stands.below;
     now = fit_over told stands fits;
@@ -99,6 +99,7 @@ pub versions_back : (schema : Schema) (told : Option Tables) (mark : ℕ) (befor
 versions_back schema told mark before after back = record {
   now = map-get (λ layers. option_map (seen schema layers) told) before.past before.layers mark after.layers back.layers;
   past = ap (map (λ layers. option_map (seen schema layers) told)) back.past ∙ map-take (λ layers. option_map (seen schema layers) told) mark before.past;
+  below = refl;
 }
 
 all-get : {A : Type 0} (P : A → Type 0) (xs : List A) (n : ℕ) (y : A) → AllByRecursion P xs → slice_get xs n ≡ Some y → P y
@@ -114,7 +115,6 @@ all-take P (suc n) (x ∷ xs) all = (all.0, all-take P n xs all.1)
 pub back_stands : (schema : Schema) (attached : Option Layout) (told : Option Tables) (mark : ℕ) (before after : Held) → GoesBack mark before after → Stands schema attached told before → Stands schema attached told after
 back_stands schema attached told mark before after back stands = record {
   accepted = stands.accepted;
-  ids = stands.ids;
   attached_is = stands.attached_is;
   below = stands.below;
   now = all-get (FitOver schema told) (before.past ++ before.layers ∷ []) mark after.layers (all-push (FitOver schema told) before.past before.layers stands.past stands.now) back.layers;
@@ -277,7 +277,7 @@ module _ (schema : Schema) (attached : Option Layout) (told : Option Tables) (he
   put_changes table row id id_is is right fits =
       let new = with_layer table.0 (with_entry (id_row (table_at schema table.0) row) (Some row) (held.layers table.0)) held.layers in
       let new_is = is ∙ ap (λ (k : Row). entered table.0 k (Some row) held) id_is in
-      let fit = put_fits schema held.layers stands.now.0 table row right (stands.ids table.0 row right) in
+      let fit = put_fits schema held.layers stands.now.0 table row right (have_ids schema stands.accepted table.0 row right) in
       let leads = λ (tables : Tables) (below : FitsSchema schema tables). put_is schema held.layers stands.now.0 tables below table row right in
       (versions_changed schema attached held after new (after_change schema (change.Put table row)) new_is fit leads told stands, change_stands schema attached held after new (after_change schema (change.Put table row)) new_is fit leads told stands fits)
 

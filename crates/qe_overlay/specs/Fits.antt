@@ -15,8 +15,9 @@ use Rattle.qe_changes.specs.Right.{is_row_of, is_id_of, is_pair_of, is_last_of}
 use Rattle.qe_view.specs.Attached.{FitLayout}
 use Rattle.qe_view.specs.Layouts.{Layout, layout_of}
 use Rattle.qe_view.specs.Versions.{Versions}
-use Rattle.qe_overlay.specs.Held.{Held, held_in, none_kept}
-use Rattle.qe_overlay.specs.Laid.{id_row, laid_over}
+use Rattle.qe_base.specs.declared.value.TableId.{TableId}
+use Rattle.qe_overlay.specs.Held.{Held, held_in, narrowed, none_kept}
+use Rattle.qe_overlay.specs.Laid.{laid_over}
 use Rattle.qe_overlay.specs.Layers.{Entry, Layers, pair_of, seen}
 
 -- a row of this model, with this id
@@ -44,18 +45,13 @@ pub record LayersFit (schema : Schema) (layers : Layers) : Type 0 where
 abbrev pub FitOver : Schema → Option Tables → Layers → Type 0
 FitOver schema told layers = LayersFit schema layers × IfSome told (λ tables. FitsSchema schema (seen schema layers tables))
 
--- the told tables below, seen through the layers now and before each change
+-- the told tables below, seen through the layers now and before each change, and as they are
 abbrev pub versions_over : Schema → Option Tables → Held → Versions
-versions_over schema told held = record { now = option_map (seen schema held.layers) told; past = map (λ layers. option_map (seen schema layers) told) held.past }
-
--- the id of each row of a model is an id of it: no part of it is null
-abbrev pub HaveIds : Schema → Type 0
-HaveIds schema = (table : ℕ) (row : Row) → is_row_of schema table row ≡ true → is_id_of schema table (id_row (table_at schema table) row) ≡ true
+versions_over schema told held = record { now = option_map (seen schema held.layers) told; past = map (λ layers. option_map (seen schema layers) told) held.past; below = told }
 
 -- what is below is attached with the layout of the schema, and all layers fit
 pub record Stands (schema : Schema) (attached : Option Layout) (told : Option Tables) (held : Held) : Type 0 where
   pub accepted : IsSchema schema
-  pub ids : HaveIds schema
   pub attached_is : attached ≡ Some (layout_of schema)
   pub below : FitLayout attached told
   pub now : FitOver schema told held.layers
@@ -72,4 +68,8 @@ stands_fit schema attached (Some tables) held stands = stands.now.1
 
 -- an overlay without changes stands over what is attached with the layout of the schema
 abbrev pub EmptyStands : Type 0
-EmptyStands = (schema : Schema) (attached : Option Layout) (told : Option Tables) → IsSchema schema → HaveIds schema → attached ≡ Some (layout_of schema) → FitLayout attached told → Stands schema attached told (held_in none_kept)
+EmptyStands = (schema : Schema) (attached : Option Layout) (told : Option Tables) → IsSchema schema → attached ≡ Some (layout_of schema) → FitLayout attached told → Stands schema attached told (held_in none_kept)
+
+-- of layers that fit, those of some tables fit too
+abbrev pub NarrowedFit : Type 0
+NarrowedFit = (schema : Schema) (tables : List TableId) (layers : Layers) → LayersFit schema layers → LayersFit schema (narrowed tables layers)

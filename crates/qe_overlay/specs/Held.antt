@@ -1,11 +1,13 @@
 -- What an overlay holds: the layers now, and those before each change that can be taken back.
-use Rattle.std.specs.Prelude.{◌≡◌, ℕ, ℤ, List, [], ◌∷◌, ◌++◌, ◌==◌, take, slice_get, unwrap_or, Option, Some, None, if◌then◌else◌}
+use Rattle.std.specs.Prelude.{◌≡◌, ℕ, ℤ, Bool, false, List, [], ◌∷◌, ◌++◌, ◌==◌, take, slice_get, unwrap_or, Option, Some, None, if◌then◌else◌}
 use Rattle.std.specs.BTreeMap.{insert_entry, is_at}
 use Rattle.std.specs.Int.{int_max}
+use Rattle.std.specs.List.{list_any}
 use Rattle.std.specs.Map.{lookup, remove_entry, set_value}
 use Rattle.qe_base.specs.Values.{row_cmp}
 use Rattle.qe_base.specs.declared.value.Row.{Row}
-use Rattle.qe_overlay.specs.Layers.{Entry, Layer, Layers, no_layer}
+use Rattle.qe_base.specs.declared.value.TableId.{TableId}
+use Rattle.qe_overlay.specs.Layers.{Layer, Layers, no_layer}
 use Rattle.qe_overlay.specs.declared.overlay.Undo.{Undo}
 use Rattle.qe_overlay.specs.declared.overlay.Undo.TheVariants.{Entered, Raised}
 
@@ -93,3 +95,16 @@ none_kept = record { layers = []; log = [] }
 pub record GoesBack (mark : ℕ) (before after : Held) : Type 0 where
   pub layers : slice_get (before.past ++ before.layers ∷ []) mark ≡ Some after.layers
   pub past : after.past ≡ take mark before.past
+
+-- ---- some tables alone
+
+abbrev pub is_listed : List TableId → ℕ → Bool
+is_listed tables number = list_any (λ (table : TableId). table.0 == number) tables
+
+-- the layers of these tables, and of all others nothing
+abbrev pub narrowed : List TableId → Layers → Layers
+narrowed tables layers = λ table. if is_listed tables table then layers table else no_layer
+
+-- layers that hold nothing of other tables stay as they are
+abbrev pub NarrowedStay : Type 0
+NarrowedStay = (tables : List TableId) (layers : Layers) → ((table : ℕ) → is_listed tables table ≡ false → layers table ≡ no_layer) → narrowed tables layers ≡ layers

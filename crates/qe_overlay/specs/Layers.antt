@@ -27,6 +27,10 @@ Layers = ℕ → Layer
 abbrev pub no_layer : Layer
 no_layer = record { entries = []; last = None }
 
+-- nothing is entered of any table
+abbrev pub no_layers : Layers
+no_layers = λ table. no_layer
+
 abbrev pub rows_and : List Row → Option Row → List Row
 rows_and rows None = rows
 rows_and rows (Some row) = row ∷ rows

@@ -1,5 +1,5 @@
 //! What is entered of one table.
-ghost use Rattle.std.specs.Prelude.{◌≡◌, [], ◌++◌, filter, true, IfOk, OnOk, OnErr};
+ghost use Rattle.std.specs.Prelude.{◌≡◌, [], ◌++◌, filter, true, IfOk, OnOk, OnErr, if◌then◌else◌};
 ghost use Rattle.std.specs.List.Sorted.{IsStrictlySortedBy};
 ghost use Rattle.std.specs.Map.{keys_of, values_of};
 ghost use Rattle.qe_base.specs.Values.{row_cmp};
@@ -101,6 +101,16 @@ impl Layer {
     {
         if self.last.is_some() {
             self.last = before;
+        }
+    }
+
+    /// Drops all that is entered, unless it is kept. It takes no memory.
+    pub fn keep_if(&mut self, kept: bool)
+        ensures { self.new ≡ (if kept then self.old else no_layer) }
+    {
+        if !kept {
+            self.entries.clear();
+            self.last = None;
         }
     }
 

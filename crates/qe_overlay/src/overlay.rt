@@ -2,12 +2,16 @@
 ghost use Rattle.std.specs.Prelude.{◌≡◌, ◌≤◌, ◌<◌, ◌+◌, ◌∷◌, ◌++◌, [], length, true, IfOk, OnOk, OnErr, None, Some};
 ghost use Rattle.qe_changes.specs.After.{is_wanted};
 ghost use Rattle.qe_overlay.specs.Fits.{LiesOver};
-ghost use Rattle.qe_overlay.specs.Layers.{over_last};
-ghost use Rattle.qe_overlay.specs.Held.{held_in, layers_in, none_kept, entered, raised, undone, GoesBack};
+ghost use Rattle.qe_overlay.specs.Layers.{no_layers, over_last};
+ghost use Rattle.qe_overlay.specs.Settled.{Settles};
+ghost use Rattle.qe_overlay.specs.Held.{held_in, layers_in, none_kept, entered, raised, undone, GoesBack, is_listed as has_number, narrowed};
 
+use crate::changes::all_changes;
 use crate::layer::Layer;
 use qe_base::{Row, Rows, Table, TableId};
-use qe_text::Memory;
+use qe_changes::Change;
+use qe_schema::Schema;
+use qe_text::{Items, Memory};
 use qe_view::Mark;
 use std::alloc::Global;
 use std::marker::Model;
@@ -183,8 +187,18 @@ impl Overlay {
         self.log.clear();
     }
 
+    /// Drops what is held of all tables but these. It takes no memory. Marks from before mean nothing after
+    /// it: what is left can't be taken back.
+    pub fn narrow(&mut self, tables: &[TableId])
+        ensures layers { (held_in self.new).layers ≡ narrowed tables.now (held_in self.old).layers }
+        ensures past { (held_in self.new).past ≡ [] }
+    {
+        narrow_layers(&mut self.layers, tables);
+        self.log.clear();
+    }
+
     /// What it takes memory from.
-    pub fn allocator(&self) -> Global {
+    pub(crate) fn allocator(&self) -> Global {
         self.alloc
     }
 
@@ -223,5 +237,31 @@ impl Overlay {
             None => below,
             Some(layer) => layer.last_over(below),
         }
+    }
+
+    /// The changes that make of the tables below those that are seen.
+    pub fn changes(&self, schema: &Schema) -> Result<Items<Change>, Memory>
+        ensures settles { IfOk result (λ changes. Settles schema.now (held_in self.now).layers changes) }
+        ensures none { IfOk result (λ changes. (held_in self.now).layers ≡ no_layers → changes ≡ []) }
+    {
+        let count = self.layers.len().min(schema.tables() as usize);
+        all_changes(self.alloc, schema, &self.layers[..count])
+    }
+}
+
+/// Whether one of the tables has this number.
+fn is_listed(tables: &[TableId], number: usize) -> bool
+    ensures { result ≡ has_number tables.now number }
+{
+    tables.iter().any(|table| table.0 as usize == number)
+}
+
+/// Drops what is held of all tables but these.
+fn narrow_layers(layers: &mut [Layer], tables: &[TableId])
+    ensures { layers_in layers.new ≡ narrowed tables.now (layers_in layers.old) }
+{
+    for number in 0..layers.len() {
+        let layer = &mut layers[number];
+        layer.keep_if(is_listed(tables, number));
     }
 }

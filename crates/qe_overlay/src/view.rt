@@ -1,15 +1,20 @@
 //! The tables of a connector, seen through an overlay.
-ghost use Rattle.std.specs.Prelude.{◌≡◌, true};
+ghost use Rattle.std.specs.Prelude.{◌≡◌, true, false, [], option_map, IsErrOf, OnOk, OnErr};
+ghost use Rattle.qe_base.specs.Causes.{HasCause};
+ghost use Rattle.qe_changes.specs.After.{after_all};
+ghost use Rattle.qe_changes.specs.Answers.{IsMisfit};
+ghost use Rattle.qe_changes.specs.Calls.{AtMost, with_apply};
 ghost use Rattle.qe_changes.specs.Right.{has_table};
 ghost use Rattle.qe_tables.specs.Tables.{table_at};
+ghost use Rattle.qe_view.specs.Attached.{FitLayout, CanApply, OfShapes};
 
 use crate::layer::id_columns;
 use crate::overlay::Overlay;
 use qe_base::{Row, Rows, Table, TableId, Value};
-use qe_changes::ConnFault;
+use qe_changes::{Change, ConnFault};
 use qe_rows::{id_row, pair_row};
 use qe_schema::Schema;
-use qe_text::Memory;
+use qe_text::{Items, Memory};
 use qe_view::{Connector, Mark, View};
 
 /// The tables that a connector keeps, with the changes of an overlay. Changes stay in the overlay, and each
@@ -27,6 +32,26 @@ fn shape_of(schema: &Schema, table: TableId) -> &Table
     ensures { result.now ≡ table_at schema.now table.0 }
 {
     &schema.table_list()[table.0 as usize]
+}
+
+/// Makes changes, if there are any.
+fn apply_any<C: Connector>(below: &mut C, changes: &Items<Change>) -> Result<(), ConnFault>
+    requires can { CanApply (C.attached below.old) (C.told below.old) changes.now }
+    requires fits { FitLayout (C.attached below.old) (C.told below.old) }
+    ensures ok { OnOk result (OfShapes (C.attached below.old) (λ shapes. C.told below.new ≡ option_map (after_all shapes changes.now) (C.told below.old))) }
+    ensures err { OnErr result (C.told below.new ≡ C.told below.old) }
+    ensures attached { C.attached below.new ≡ C.attached below.old }
+    ensures fits { FitLayout (C.attached below.new) (C.told below.new) }
+    ensures cause { HasCause (C.may_fail below.old) (C.fault_count below.old) (C.fault_count below.new) (IsErrOf result ConnFault.Failed) }
+    ensures misfits { (IsMisfit result → ⊥) × (C.misfit_count below.new ≡ C.misfit_count below.old) }
+    ensures sure { C.may_fail below.old ≡ false → C.may_fail below.new ≡ false }
+    ensures calls { AtMost with_apply (C.calls below.old) (C.calls below.new) }
+    ensures none { changes.now ≡ [] → C.calls below.new ≡ C.calls below.old }
+{
+    if changes.is_empty() {
+        return Ok(());
+    }
+    below.apply(changes.as_slice())
 }
 
 impl<'s, C> OverlayView<'s, C> {
@@ -54,6 +79,32 @@ impl<'s, C> OverlayView<'s, C> {
             below,
         } = self;
         (overlay, below)
+    }
+}
+
+impl<'s, C: Connector> OverlayView<'s, C> {
+    ghost use Rattle.qe_overlay.specs.Fits.{Stands, versions_over};
+    ghost use Rattle.qe_overlay.specs.Held.{held_in};
+    ghost use Rattle.qe_overlay.specs.Layers.{no_layers};
+
+    /// Makes all changes below, or none of them, by one call if there are any. After a refusal they are still
+    /// in the overlay.
+    pub fn settle(&mut self) -> Result<(), ConnFault>
+        requires stands { Stands self.old.schema.now (C.attached self.old.below) (C.told self.old.below) (held_in self.old.overlay) }
+        ensures ok { OnOk result (versions_over self.new.schema.now (C.told self.new.below) (held_in self.new.overlay) ≡ record { now = (versions_over self.old.schema.now (C.told self.old.below) (held_in self.old.overlay)).now; past = []; below = (versions_over self.old.schema.now (C.told self.old.below) (held_in self.old.overlay)).now }) }
+        ensures err { OnErr result (versions_over self.new.schema.now (C.told self.new.below) (held_in self.new.overlay) ≡ versions_over self.old.schema.now (C.told self.old.below) (held_in self.old.overlay)) }
+        ensures schema { self.new.schema.now ≡ self.old.schema.now }
+        ensures stands { Stands self.new.schema.now (C.attached self.new.below) (C.told self.new.below) (held_in self.new.overlay) }
+        ensures cause { HasCause (C.may_fail self.old.below) (C.fault_count self.old.below) (C.fault_count self.new.below) (IsErrOf result ConnFault.Failed) }
+        ensures misfits { (IsMisfit result → ⊥) × (C.misfit_count self.new.below ≡ C.misfit_count self.old.below) }
+        ensures sure { C.may_fail self.old.below ≡ false → C.may_fail self.new.below ≡ false }
+        ensures calls { AtMost with_apply (C.calls self.old.below) (C.calls self.new.below) }
+        ensures idle { (held_in self.old.overlay).layers ≡ no_layers → C.calls self.new.below ≡ C.calls self.old.below }
+    {
+        let changes = self.overlay.changes(self.schema)?;
+        apply_any(&mut self.below, &changes)?;
+        self.overlay.clear();
+        Ok(())
     }
 }
 

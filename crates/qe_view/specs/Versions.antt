@@ -4,14 +4,16 @@ use Rattle.qe_schema.specs.Schemas.{Schema}
 use Rattle.qe_tables.specs.Fits.{FitsSchema}
 use Rattle.qe_tables.specs.Tables.{Tables}
 
--- what a view tells of its tables: now, and before each change that can be taken back, the oldest first
+-- What a view tells of its tables: now, and before each change that can be taken back, the oldest first; and
+-- those that are kept below, which stay while its changes are in the view alone.
 pub record Versions : Type 0 where
   pub now : Option Tables
   pub past : List (Option Tables)
+  pub below : Option Tables
 
 -- a change was made, which can be taken back
 abbrev pub changed : (Tables → Tables) → Versions → Versions
-changed change versions = record { now = option_map change versions.now; past = versions.past ++ versions.now ∷ [] }
+changed change versions = record versions { now = option_map change versions.now; past = versions.past ++ versions.now ∷ [] }
 
 -- the change was made, or after a refusal nothing was
 pub record Changes {E : Type 0} (change : Tables → Tables) (before after : Versions) (result : Result (Unit {0}) E) : Type 0 where
@@ -22,6 +24,7 @@ pub record Changes {E : Type 0} (change : Tables → Tables) (before after : Ver
 pub record GoesBack (mark : ℕ) (before after : Versions) : Type 0 where
   pub now : slice_get (before.past ++ before.now ∷ []) mark ≡ Some after.now
   pub past : after.past ≡ take mark before.past
+  pub below : after.below ≡ before.below
 
 -- the change leads to tables that fit, where they are told
 abbrev pub LeadsToFit : Schema → (Tables → Tables) → Option Tables → Type 0

@@ -1,5 +1,5 @@
 use Rattle.qe_base.specs.Causes.{Rose}
-use Rattle.qe_cli.proofs.Ended.{printed}
+use Rattle.qe_cli.proofs.Ending.{printed}
 use Rattle.qe_cli.proofs.commands.print_line.Goals as goal
 
 pub returns-clause-prints : goal.returns-clause-prints

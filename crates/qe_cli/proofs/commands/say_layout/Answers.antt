@@ -1,5 +1,5 @@
 use Rattle.std.proofs.Common.{◌∙◌}
-use Rattle.qe_cli.proofs.Ended.{layout_comes}
+use Rattle.qe_cli.proofs.Ending.{layout_comes}
 use Rattle.qe_cli.proofs.commands.say_layout.Goals as goal
 
 pub returns-clause-ends : goal.returns-clause-ends

@@ -1,12 +1,19 @@
-use Rattle.std.proofs.Common.{ap, ◌∙◌, is_some}
-use Rattle.std.specs.Prelude.{find}
-use Rattle.qe_tables.specs.Columns.{at_columns, holds}
-use Rattle.qe_mem.specs.Kept.{kept_at}
-use Rattle.qe_ops.proofs.Performing.{is_some-copied, is_some-find}
+use Rattle.std.proofs.Common.{sym, ap, ◌∙◌}
+use Rattle.qe_tables.specs.Columns.{has_null, at_columns}
+use Rattle.qe_ops.proofs.Keyed.{null_unheld, can_load_own, held_by}
 use Rattle.qe_ops.proofs.keys.is_held.Goals as goal
 
-pub returns : goal.returns
-returns c =
-    let rows = (kept_at c.args.tables.now c.args.table.0).rows in
-    c.is_some.ensures ∙ is_some-copied c.find.result ∙ ap is_some (c.find.ensures ∙ ap (λ values. find (holds c.args.columns.now values) rows) (c.as_slice.ensures ∙ c.in_ok-values.ensures))
-    ∙ is_some-find (holds c.args.columns.now (at_columns c.args.columns.now c.args.row.now)) rows
+pub returns-then-has_null-clause-held : goal.returns-then-has_null-clause-held
+returns-then-has_null-clause-held g c =
+    null_unheld (g.V.View.versions c.args.view.now).now c.args.table.0 c.args.key.now.columns c.args.row.now c.in_ok-values.values.values (c.in_ok-values.ensures ∙ ap (λ columns. at_columns columns c.args.row.now) c.as_slice-columns.ensures)
+    (sym (ap has_null c.as_slice.ensures) ∙ sym c.has_null.ensures ∙ c.if-has_null.true)
+
+pub load-requires-clause-can : goal.load-requires-clause-can
+load-requires-clause-can g c =
+    can_load_own (g.V.View.schema c.args.view.now) c.args.table.0 c.args.key.now c.args.row.now c.as_slice-columns.result.now c.in_ok-values.values.values c.requires.right c.requires.key c.as_slice-columns.ensures
+    (c.in_ok-values.ensures ∙ ap (λ columns. at_columns columns c.args.row.now) c.as_slice-columns.ensures) (sym (ap has_null c.as_slice.ensures) ∙ sym c.has_null.ensures ∙ c.if-has_null.false)
+
+pub returns-clause-held : goal.returns-clause-held
+returns-clause-held g c =
+    held_by (g.V.View.versions c.args.view.now).now c.args.table.0 c.args.key.now.columns c.args.row.now c.as_slice-columns.result.now c.in_ok-values.values.values c.in_ok-load.field-0 c.is_some.result c.as_slice-columns.ensures
+    (c.in_ok-values.ensures ∙ ap (λ columns. at_columns columns c.args.row.now) c.as_slice-columns.ensures) (sym (ap has_null c.as_slice.ensures) ∙ sym c.has_null.ensures ∙ c.if-has_null.false) c.is_some.ensures c.in_ok-load.ensures.row

@@ -1,5 +1,4 @@
-use Rattle.std.proofs.Common.{◌≡◌, ◌++◌}
-use Rattle.std.specs.Map.{values_of}
+use Rattle.std.proofs.Common.{◌≡◌}
 use Rattle.qe_overlay.proofs.layer.rows_of.Given as goal
 
 abbrev pub invariant-loop-row : goal.invariant-loop-row

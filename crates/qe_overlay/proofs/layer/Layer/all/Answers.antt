@@ -1,6 +1,4 @@
-use Rattle.std.proofs.Common.{rules, ◌≡◌, ◌++◌, ◌∙◌, sym, ap, filter, true}
-use Rattle.std.specs.Map.{values_of}
-use Rattle.qe_changes.specs.After.{is_wanted}
+use Rattle.std.proofs.Common.{◌++◌, ◌∙◌, sym, ap, filter, true}
 use Rattle.qe_overlay.specs.Layers.{present, Layer}
 use Rattle.qe_overlay.proofs.Laying.{chosen_of, chosen-present, chosen_step, chosen_end}
 use Rattle.qe_overlay.proofs.layer.Layer.all.Goals as goal

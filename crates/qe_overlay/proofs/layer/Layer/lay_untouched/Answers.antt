@@ -1,6 +1,5 @@
-use Rattle.std.proofs.Common.{rules, ◌≡◌, ◌∙◌, sym, ap}
+use Rattle.std.proofs.Common.{◌∙◌, sym, ap}
 use Rattle.qe_tables.specs.Columns.{at_columns}
-use Rattle.qe_overlay.specs.Layers.{Layer}
 use Rattle.qe_overlay.proofs.Laying.{kept_next, left_next}
 use Rattle.qe_overlay.proofs.layer.Layer.lay_untouched.Goals as goal
 

@@ -1,4 +1,4 @@
-use Rattle.std.proofs.Common.{rules, ◌≡◌, ◌∙◌, sym, ap, List}
+use Rattle.std.proofs.Common.{◌≡◌, ◌∙◌, sym, ap, List}
 use Rattle.std.specs.BTreeMap.{is_at}
 use Rattle.qe_base.specs.Values.{row_cmp}
 use Rattle.qe_overlay.specs.Layers.{Entry, Layer}

@@ -1,4 +1,4 @@
-use Rattle.std.proofs.Common.{◌≡◌, ◌++◌, filter, true}
+use Rattle.std.proofs.Common.{◌≡◌, ◌++◌, filter}
 use Rattle.qe_changes.specs.After.{is_wanted}
 use Rattle.qe_overlay.specs.Layers.{present}
 use Rattle.qe_overlay.proofs.Laying.{chosen_of}

@@ -1,4 +1,4 @@
-use Rattle.std.proofs.Common.{rules, ◌≡◌, ◌≤◌, ◌∙◌, sym, ap, length, ℕ, arith, subst}
+use Rattle.std.proofs.Common.{◌≡◌, ◌≤◌, length, ℕ, arith}
 use Rattle.qe_overlay.specs.Held.{held_in}
 use Rattle.qe_overlay.proofs.Undoing.{gone_back}
 use Rattle.qe_overlay.proofs.overlay.Overlay.back.Goals as goal

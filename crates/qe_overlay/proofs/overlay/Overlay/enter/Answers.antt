@@ -1,8 +1,6 @@
-use Rattle.std.proofs.Common.{rules, ◌≡◌, ◌∙◌, sym, ap, length, subst, ◌<◌}
-use Rattle.std.proofs.Common.{List, [], ◌∷◌, ◌++◌}
-use Rattle.qe_overlay.specs.Held.{layers_in, Kept, held_in}
+use Rattle.std.proofs.Common.{◌∙◌, sym, ap, length, subst, ◌<◌}
+use Rattle.qe_overlay.specs.Held.{Kept, held_in}
 use Rattle.qe_overlay.proofs.Undoing.{entered_held}
-use Rattle.qe_overlay.specs.declared.overlay.Undo.{Undo}
 use Rattle.qe_overlay.proofs.overlay.Overlay.enter.Goals as goal
 
 pub returns-clause-ok : goal.returns-clause-ok

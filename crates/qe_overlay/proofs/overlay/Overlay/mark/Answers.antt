@@ -1,4 +1,4 @@
-use Rattle.std.proofs.Common.{rules, ◌≡◌, ◌∙◌, sym, ap, length}
+use Rattle.std.proofs.Common.{◌∙◌, sym, ap, length}
 use Rattle.qe_overlay.specs.Held.{layers_in, Kept}
 use Rattle.qe_overlay.proofs.Undoing.{length-past_of}
 use Rattle.qe_overlay.proofs.overlay.Overlay.mark.Goals as goal

@@ -1,11 +1,9 @@
-use Rattle.std.proofs.Common.{rules, ◌≡◌, ◌∙◌, sym, ap, length, subst, ◌<◌}
-use Rattle.std.proofs.Common.{List, [], ◌∷◌, ◌++◌}
+use Rattle.std.proofs.Common.{rules, ◌∙◌, sym, ap, length, subst, ◌<◌}
 use Rattle.std.proofs.lemmas.Int.{to_z-of_z}
 use mir.Syntax.{w64}
 use mir.Val.{SFits}
-use Rattle.qe_overlay.specs.Held.{layers_in, Kept, held_in, with_raised}
+use Rattle.qe_overlay.specs.Held.{Kept, held_in, with_raised}
 use Rattle.qe_overlay.proofs.Undoing.{raised_held}
-use Rattle.qe_overlay.specs.declared.overlay.Undo.{Undo}
 use Rattle.qe_overlay.proofs.overlay.Overlay.raise.Goals as goal
 
 pub returns-clause-ok : goal.returns-clause-ok

@@ -1,5 +1,4 @@
-use Rattle.std.proofs.Common.{rules, ◌≡◌, ◌∙◌, ap}
-use Rattle.qe_overlay.specs.Held.{layers_in}
+use Rattle.std.proofs.Common.{◌∙◌}
 use Rattle.qe_overlay.proofs.Undoing.{layers_in-more}
 use Rattle.qe_overlay.proofs.overlay.Overlay.reach.Goals as goal
 

@@ -1,6 +1,5 @@
-use Rattle.std.proofs.Common.{rules, ◌≡◌, ◌∙◌, sym, ap, List, ◌∷◌, ◌++◌, []}
-use Rattle.qe_overlay.specs.Layers.{Layers}
-use Rattle.qe_overlay.specs.Held.{layers_in, held_in, past_of, Kept}
+use Rattle.std.proofs.Common.{◌∙◌, sym, ap, List, ◌∷◌, ◌++◌, []}
+use Rattle.qe_overlay.specs.Held.{layers_in, past_of, Kept}
 use Rattle.qe_overlay.specs.declared.overlay.Undo.{Undo}
 use Rattle.qe_overlay.proofs.Undoing.{popped}
 use Rattle.qe_overlay.proofs.overlay.Overlay.undo_last.Goals as goal

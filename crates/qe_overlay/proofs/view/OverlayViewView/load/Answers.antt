@@ -1,7 +1,6 @@
-use Rattle.std.proofs.Common.{rules, ◌≡◌, ◌∙◌, sym, ap, subst, List, true}
+use Rattle.std.proofs.Common.{◌≡◌, subst, true}
 use Rattle.std.specs.List.{list_all}
 use Rattle.qe_base.specs.declared.schema.Table.{Table}
-use Rattle.qe_base.specs.declared.value.Row.{Row}
 use Rattle.qe_schema.specs.Schemas.{Schema}
 use Rattle.qe_changes.specs.After.{is_wanted}
 use Rattle.qe_tables.specs.Fits.{fit_columns}

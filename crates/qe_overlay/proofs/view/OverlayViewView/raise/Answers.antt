@@ -1,8 +1,7 @@
-use Rattle.std.proofs.Common.{rules, ◌≡◌, ◌∙◌, sym, ap}
+use Rattle.std.proofs.Common.{rules, ◌∙◌, ap}
 use Rattle.std.proofs.lemmas.Int.{to_z-of_z}
 use mir.Syntax.{w64}
 use mir.Val.{SFits}
-use Rattle.qe_overlay.specs.Layers.{over_last}
 use Rattle.qe_overlay.specs.Held.{held_in, raised}
 use Rattle.qe_overlay.proofs.Views.{raise_changes}
 use Rattle.qe_overlay.proofs.view.OverlayViewView.raise.Goals as goal

@@ -1,0 +1,5 @@
+pub mod Going
+pub mod Replied
+pub mod Resting
+pub mod Settling
+pub mod Starting

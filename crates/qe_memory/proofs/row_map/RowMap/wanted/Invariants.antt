@@ -1,7 +1,0 @@
-use Rattle.std.proofs.Common.{◌≡◌, ◌++◌, filter}
-use Rattle.qe_changes.specs.After.{is_wanted}
-use Rattle.qe_memory.specs.RowMaps.{standing}
-use Rattle.qe_memory.proofs.row_map.RowMap.wanted.Given as goal
-
-abbrev pub invariant-loop-slot : goal.invariant-loop-slot
-invariant-loop-slot l = l.rows ++ filter (is_wanted l.columns l.keys) (standing l.slot-iterator) ≡ filter (is_wanted l.columns l.keys) l.self.rows
