@@ -122,17 +122,51 @@ fn shown_value(alloc: Global, value: &Value) -> Result<String, AllocError> {
     }
 }
 
-/// The rows as text: a blank before each value but the first, and a semicolon behind each row.
+/// The values of a row as text, with a blank between them.
+fn shown_row(alloc: Global, row: &Row) -> Result<String, AllocError> {
+    let mut text = String::new(alloc);
+    for (number, value) in row.values.as_slice().iter().enumerate() {
+        if number > 0 {
+            text.push_str(" ")?;
+        }
+        text.push_str(shown_value(alloc, value)?.as_str())?;
+    }
+    Ok(text)
+}
+
+/// The rows as text, with a semicolon behind each.
 pub fn shown(alloc: Global, rows: &Rows) -> Result<String, AllocError> {
     let mut text = String::new(alloc);
     for row in rows.rows.as_slice() {
-        for (number, value) in row.values.as_slice().iter().enumerate() {
-            if number > 0 {
-                text.push_str(" ")?;
-            }
-            text.push_str(shown_value(alloc, value)?.as_str())?;
-        }
+        text.push_str(shown_row(alloc, row)?.as_str())?;
         text.push_str(";")?;
+    }
+    Ok(text)
+}
+
+fn shown_pair(alloc: Global, a: &Value, b: &Value) -> Result<String, AllocError> {
+    let a = shown_value(alloc, a)?;
+    let b = shown_value(alloc, b)?;
+    format!(in alloc; "{a} {b}")
+}
+
+fn shown_change(alloc: Global, change: &Change) -> Result<String, AllocError> {
+    let (what, table, text) = match change {
+        Change::Remove { table, id } => ("remove", table, shown_row(alloc, id)?),
+        Change::Put { table, row } => ("put", table, shown_row(alloc, row)?),
+        Change::Unlink { table, a, b } => ("unlink", table, shown_pair(alloc, a, b)?),
+        Change::Link { table, a, b } => ("link", table, shown_pair(alloc, a, b)?),
+        Change::Counter { table, last } => ("counter", table, format!(in alloc; "{last}")?),
+    };
+    let number = table.0;
+    format!(in alloc; "{what} {number}: {text};")
+}
+
+/// The changes as text: what is done, the number of the table and the values, with a semicolon behind each.
+pub fn shown_changes(alloc: Global, changes: &[Change]) -> Result<String, AllocError> {
+    let mut text = String::new(alloc);
+    for change in changes {
+        text.push_str(shown_change(alloc, change)?.as_str())?;
     }
     Ok(text)
 }

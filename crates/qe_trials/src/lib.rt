@@ -12,6 +12,8 @@ mod lists;
 #[cfg(test)]
 mod memory;
 #[cfg(test)]
+mod overlays;
+#[cfg(test)]
 mod program;
 #[cfg(test)]
 mod right;

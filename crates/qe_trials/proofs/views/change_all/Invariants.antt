@@ -1,4 +1,3 @@
-use Rattle.std.proofs.Common.{◌≡◌}
 use Rattle.qe_overlay.specs.Held.{held_in}
 use Rattle.qe_trials.specs.Trials.{IsOver}
 use Rattle.qe_trials.proofs.views.change_all.Given as goal
