@@ -4,9 +4,6 @@
 
 ghost use Rattle.std.specs.Prelude.{◌≡◌, ◌≢◌};
 
-#[cfg(test)]
-mod tests;
-
 use qe_cli::{StdHost, command};
 use qe_mem::MemConnector;
 use std::env;

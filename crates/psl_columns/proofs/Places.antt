@@ -5,7 +5,7 @@ use Rattle.std.specs.Prelude.{position, bytes_eq, nat_lt, unwrap_or, IfOk}
 use Rattle.std.specs.List.{position_or_len}
 use Rattle.psl_rules.specs.declared.key.Key as ruled
 use Rattle.qe_base.specs.declared.schema.Key.{Key}
-use Rattle.qe_schema.specs.SchemaOf.{number_among}
+use Rattle.psl_sound.specs.SchemaOf.{number_among}
 use Rattle.psl_columns.specs.Numbered.{numbered}
 
 place_map : (names : List (Bor (List ℕ))) (name : List ℕ) → position_or_len (bytes_eq name) (map (λ other. other.now) names) ≡ position_or_len (λ other. bytes_eq name other.now) names

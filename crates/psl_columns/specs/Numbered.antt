@@ -4,7 +4,7 @@ use Rattle.psl_text.specs.declared.tree.Attribute.{Attribute}
 use Rattle.psl_rules.specs.Parts.{Spelling, is_called, given_names}
 use Rattle.psl_rules.specs.declared.key.Key as ruled
 use Rattle.qe_base.specs.declared.schema.Key.{Key}
-use Rattle.qe_schema.specs.SchemaOf.{number_among}
+use Rattle.psl_sound.specs.SchemaOf.{number_among}
 
 -- a key over the numbers of its fields among these columns
 abbrev pub numbered : List Spelling → ruled.Key → Key

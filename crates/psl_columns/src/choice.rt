@@ -1,7 +1,7 @@
 //! Enums.
 ghost use Rattle.std.specs.Prelude.{◌≡◌, IfOk, map};
 ghost use Rattle.psl_rules.specs.Parts.{members};
-ghost use Rattle.qe_schema.specs.SchemaOf as spec;
+ghost use Rattle.psl_sound.specs.SchemaOf as spec;
 
 use psl_parts::blocks_of;
 use psl_text::{Block, Entry, Tree, Word};

@@ -2,7 +2,7 @@
 ghost use Rattle.std.specs.Prelude.{◌≡◌, IfOk, true, unwrap_or, codes};
 ghost use Rattle.psl_rules.specs.Parts.{given_text};
 ghost use Rattle.psl_rules.specs.Stored.{mapped};
-ghost use Rattle.qe_schema.specs.SchemaOf as spec;
+ghost use Rattle.psl_sound.specs.SchemaOf as spec;
 
 use crate::fill::fill;
 use crate::names::{enum_names, is_column, number_among};

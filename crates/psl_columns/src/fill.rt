@@ -8,10 +8,10 @@ ghost use Rattle.qe_scalars.specs.Moments.{moment_of};
 ghost use Rattle.qe_scalars.specs.Bytes.{bytes_of};
 ghost use Rattle.qe_base.specs.declared.value.Value.TheVariants as value;
 ghost use Rattle.qe_base.specs.declared.schema.Fill.TheVariants as fill;
-ghost use Rattle.qe_schema.specs.SchemaOf as spec;
+ghost use Rattle.psl_sound.specs.SchemaOf as spec;
 
 use crate::names::{member_names, number_among};
-use psl_defaults::number_in;
+use psl_keys::number_in;
 use psl_parts::{given, is_called, name_in, text_in};
 use psl_text::{Attribute, Block, Term, Tree, Word};
 use qe_base::{Fill, Value};

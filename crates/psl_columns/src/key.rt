@@ -3,10 +3,10 @@ ghost use Rattle.std.specs.Prelude.{◌≡◌, ◌++◌, IfOk, OnOk, map, filter
 ghost use Rattle.psl_rules.specs.Parts.{is_called, block_attributes};
 ghost use Rattle.psl_rules.specs.Keys.{key_over};
 ghost use Rattle.psl_columns.specs.Numbered.{numbered, indexes_over};
-ghost use Rattle.qe_schema.specs.SchemaOf as spec;
+ghost use Rattle.psl_sound.specs.SchemaOf as spec;
 
 use crate::names::{column_names, number_among};
-use psl_fields::key_name;
+use psl_keys::key_name;
 use psl_parts::{Types, given_names, given_text, is_called};
 use psl_text::{Attribute, Block, Entry, Name};
 use qe_base::Key;

@@ -6,8 +6,6 @@ mod column;
 mod fill;
 mod key;
 mod names;
-#[cfg(test)]
-mod tests;
 
 pub use choice::choices;
 pub use column::{columns, kind};

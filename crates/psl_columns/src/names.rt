@@ -2,10 +2,9 @@
 ghost use Rattle.std.specs.Prelude.{◌≡◌, IfOk, map, position, bytes_eq};
 ghost use Rattle.psl_rules.specs.Parts.{members, enums};
 ghost use Rattle.psl_rules.specs.Names.{is_value_type};
-ghost use Rattle.qe_schema.specs.SchemaOf as spec;
+ghost use Rattle.psl_sound.specs.SchemaOf as spec;
 
-use psl_fields::is_scalar;
-use psl_parts::{Types, blocks_of};
+use psl_parts::{Types, blocks_of, is_scalar};
 use psl_text::{Block, Entry, Name, Tree, Word};
 use qe_text::Memory;
 use std::alloc::Global;

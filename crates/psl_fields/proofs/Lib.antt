@@ -1,5 +1,2 @@
 pub mod Fitting
-pub mod Indexed
-pub mod Joins
-pub mod Known
 pub mod Twice

@@ -4,7 +4,8 @@ use Rattle.std.proofs.lemmas.List.{map-append}
 use Rattle.std.specs.List.{list_any}
 use Rattle.psl_text.specs.declared.tree.Name.{Name}
 use Rattle.psl_text.specs.declared.tree.Attribute.{Attribute}
-use Rattle.psl_rules.specs.Parts.{place, repeats_behind, repeats}
+use Rattle.psl_rules.specs.Parts.{place}
+use Rattle.qe_text.specs.Lists.{repeats_behind, repeats}
 use Rattle.psl_rules.specs.Names.{same_name}
 use Rattle.psl_rules.specs.Attributes.{same_attribute, attribute_place, repeated}
 

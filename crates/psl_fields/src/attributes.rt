@@ -79,8 +79,8 @@ fn unknown_in_block(block: &Block) -> Option<usize>
     }
 }
 
-/// Fields and models have attributes of known names alone, enums and members have none. Broken at
-/// the attribute's name.
+/// Rule V8: fields and models have attributes of known names alone, enums and members have none. Broken
+/// at the attribute's name.
 pub fn attributes_are_known(tree: &Tree) -> Option<usize>
     ensures { result ≡ first (spec.attributes_are_known tree.now) }
 {

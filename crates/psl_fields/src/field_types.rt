@@ -1,21 +1,12 @@
 //! The types of fields.
-ghost use Rattle.std.specs.Prelude.{◌≡◌, [], ◌∷◌, ◌||◌, not, filter, bytes_eq};
+ghost use Rattle.std.specs.Prelude.{◌≡◌, [], ◌∷◌, ◌||◌, not, filter};
 ghost use Rattle.std.specs.List.{flat_map, filter_map};
 ghost use Rattle.psl_text.specs.declared.tree.Word.TheVariants as word;
-ghost use Rattle.psl_rules.specs.Parts.{first, failing, same_word, field_of, is_among};
+ghost use Rattle.psl_rules.specs.Parts.{first, failing, same_word, field_of};
 ghost use Rattle.psl_rules.specs.Names as spec;
 
-use crate::names::is_among;
-use psl_parts::{Types, earlier, noted};
-use psl_text::{Block, Entry, Mark, Name, Word};
-
-const SCALARS: [&str; 6] = ["String", "Boolean", "Int", "BigInt", "DateTime", "Bytes"];
-
-pub fn is_scalar(kind: &Name) -> bool
-    ensures { result ≡ is_among kind.now.text spec.scalar_names }
-{
-    is_among(kind, &SCALARS)
-}
+use psl_parts::{Types, earlier, is_value_type, noted};
+use psl_text::{Block, Entry, Mark, Word};
 
 fn is_many(mark: Mark) -> bool
     ensures { result ≡ spec.is_many mark }
@@ -31,7 +22,7 @@ fn unknown_at_entry(types: &Types, entry: &Entry) -> Option<usize>
 {
     match entry {
         Entry::Field { kind, .. } => {
-            let is_column = is_scalar(kind) || types.is_enum(&kind.text);
+            let is_column = is_value_type(types, &kind.text);
             let is_known = is_column || types.is_model(&kind.text);
             noted(None, !is_known, kind.at)
         }
@@ -60,7 +51,7 @@ fn unknown_in_block(types: &Types, block: &Block) -> Option<usize>
     }
 }
 
-/// Each field's type is a scalar, an enum or a model. Broken at the type.
+/// Rule V6: each field's type is a scalar, an enum or a model. Broken at the type.
 pub fn types_are_known(types: &Types) -> Option<usize>
     ensures { result ≡ first (spec.types_are_known types.now) }
 {
@@ -105,7 +96,7 @@ fn other_list_in_block(types: &Types, block: &Block) -> Option<usize>
     }
 }
 
-/// Lists are of models alone. Broken at the type.
+/// Rule V7: lists are of models alone. Broken at the type.
 pub fn lists_are_of_models(types: &Types) -> Option<usize>
     ensures { result ≡ first (spec.lists_are_of_models types.now) }
 {

@@ -53,7 +53,7 @@ fn misgiven_in_block(block: &Block) -> Option<usize>
     }
 }
 
-/// Each attribute has the arguments that it takes. Broken at its name.
+/// Rule V10: each attribute has the arguments that it takes. Broken at its name.
 pub fn arguments_are_right(tree: &Tree) -> Option<usize>
     ensures { result ≡ first (spec.arguments_are_right tree.now) }
 {

@@ -4,8 +4,8 @@ ghost use Rattle.std.specs.List.{list_any};
 ghost use Rattle.psl_rules.specs.Parts.{first, place, failing};
 ghost use Rattle.psl_rules.specs.Names as spec;
 
-use psl_parts::{blocks_of, earlier, first_repeat, noted};
-use psl_text::{Block, Entry, Name, Tree, Word};
+use psl_parts::{blocks_of, earlier, field_names, first_repeat, member_names, noted};
+use psl_text::{Block, Name, Tree, Word};
 use qe_text::Memory;
 use std::alloc::Global;
 
@@ -42,34 +42,8 @@ fn first_among(names: &[&Name], words: &[&str]) -> Option<usize>
     found
 }
 
-/// The names of a model's fields, in text order.
-pub fn field_names(alloc: Global, model: &Block) -> Result<Vec<&Name>, Memory>
-    ensures { IfOk result (λ names. map (λ name. name.now) names.items ≡ spec.field_names model.now) }
-{
-    let mut names = Vec::new(alloc);
-    for entry in model.entries.as_slice() {
-        if let Entry::Field { name, .. } = entry {
-            names.push(name)?;
-        }
-    }
-    Ok(names)
-}
-
-/// The names of an enum's members, in text order.
-pub fn member_names(alloc: Global, enumeration: &Block) -> Result<Vec<&Name>, Memory>
-    ensures { IfOk result (λ names. map (λ name. name.now) names.items ≡ spec.member_names enumeration.now) }
-{
-    let mut names = Vec::new(alloc);
-    for entry in enumeration.entries.as_slice() {
-        if let Entry::Member { name, .. } = entry {
-            names.push(name)?;
-        }
-    }
-    Ok(names)
-}
-
-/// The names of models and enums differ, and none is the name of a type. Broken at the later name, and
-/// at a type's name.
+/// Rule V4: the names of models and enums differ, and none is the name of a type. Broken at the later
+/// name, and at a type's name.
 #[tactic(auto, using(psl_parts::proofs::Firsts::first_append))]
 pub fn type_names_are_distinct(alloc: Global, tree: &Tree) -> Result<Option<usize>, Memory>
     ensures { IfOk result (λ found. found ≡ first (spec.type_names_are_distinct tree.now)) }
@@ -118,8 +92,8 @@ fn broken_members(alloc: Global, enumeration: &Block) -> Result<Option<usize>, M
     Ok(earlier(missing, first_repeat(alloc, names.as_slice())?))
 }
 
-/// The fields of a model have different names, and none is a filter's. An enum has members, with
-/// different names. Broken at the later name, at a filter's name, and at the name of an enum without
+/// Rule V5: the fields of a model have different names, and none is a filter's; an enum has members,
+/// with different names. Broken at the later name, at a filter's name, and at the name of an enum without
 /// members.
 #[tactic(auto, using(psl_parts::proofs::Firsts::first_append, psl_parts::proofs::Firsts::earlier_assoc))]
 pub fn field_names_are_distinct(alloc: Global, tree: &Tree) -> Result<Option<usize>, Memory>

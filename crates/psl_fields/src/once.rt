@@ -93,8 +93,8 @@ fn repeated_in_block(alloc: Global, block: &Block) -> Result<Option<usize>, Memo
     }
 }
 
-/// No field has an attribute twice, and no model has `@@id` or `@@map` twice. Broken at the later
-/// name.
+/// Rule V9: no field has an attribute twice, and no model has `@@id` or `@@map` twice. Broken at the
+/// later name.
 pub fn attributes_stand_once(alloc: Global, tree: &Tree) -> Result<Option<usize>, Memory>
     ensures { IfOk result (λ found. found ≡ first (spec.attributes_stand_once tree.now)) }
 {

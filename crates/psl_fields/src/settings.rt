@@ -22,7 +22,7 @@ fn first_name(blocks: &[&Block]) -> Option<usize>
     found
 }
 
-/// There is one datasource. Broken at the names of the others, or at the end of the text.
+/// Rule V1: there is one datasource. Broken at the names of the others, or at the end of the text.
 pub fn one_datasource(alloc: Global, tree: &Tree) -> Result<Option<usize>, Memory>
     ensures { IfOk result (λ found. found ≡ first (spec.one_datasource tree.now)) }
 {
@@ -164,8 +164,8 @@ fn broken_settings(alloc: Global, block: &Block) -> Result<Option<usize>, Memory
     Ok(wrong.or(noted(None, !is_whole, block.name.at)))
 }
 
-/// Each datasource has `provider` and `relationMode` with their one value, may have `url`, and has
-/// nothing else and nothing twice. Broken at the settings that are wrong, and where none is, at the
+/// Rule V2: each datasource has `provider` and `relationMode` with their one value, may have `url`, and
+/// has nothing else and nothing twice. Broken at the settings that are wrong, and where none is, at the
 /// name of the block that lacks one.
 pub fn settings_are_given(alloc: Global, tree: &Tree) -> Result<Option<usize>, Memory>
     ensures { IfOk result (λ found. found ≡ first (spec.settings_are_given tree.now)) }
@@ -177,7 +177,7 @@ pub fn settings_are_given(alloc: Global, tree: &Tree) -> Result<Option<usize>, M
     Ok(found)
 }
 
-/// There is a model. Broken at the end of the text.
+/// Rule V3: there is a model. Broken at the end of the text.
 pub fn has_a_model(alloc: Global, tree: &Tree) -> Result<Option<usize>, Memory>
     ensures { IfOk result (λ found. found ≡ first (spec.has_a_model tree.now)) }
 {

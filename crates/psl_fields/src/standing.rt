@@ -3,9 +3,7 @@ ghost use Rattle.std.specs.Prelude.{◌≡◌, IfOk, option_to_list};
 ghost use Rattle.psl_rules.specs.Parts.{first, fields, field_of, block_attributes, block_attribute_of, failing};
 ghost use Rattle.psl_rules.specs.Attributes as spec;
 
-use psl_parts::{
-    Types, blocks_of, earlier, given_names, is_called, is_value_type, name_columns, noted,
-};
+use psl_parts::{Columns, Types, blocks_of, earlier, given_names, is_called, is_value_type, noted};
 use psl_text::{Attribute, Block, Entry, Word};
 use qe_text::{Memory, Text};
 use std::alloc::Global;
@@ -62,51 +60,55 @@ fn wrong_on_fields(types: &Types, model: &Block) -> Option<usize>
 }
 
 /// Whether an attribute of a model is over columns, where it is over fields.
-fn is_over_columns(
-    alloc: Global,
-    types: &Types,
-    model: &Block,
-    attribute: &Attribute,
-) -> Result<bool, Memory>
-    ensures { IfOk result (λ holds. holds ≡ spec.is_over_columns types.now model.now attribute.now) }
+fn is_over_columns(alloc: Global, columns: &Columns, attribute: &Attribute) -> Result<bool, Memory>
+    ensures { IfOk result (λ holds. holds ≡ spec.is_over_columns columns.now.0 columns.now.1 attribute.now) }
 {
     let names = given_names(alloc, attribute, "fields", true)?;
-    Ok(is_called(attribute, "map") || name_columns(types, model, names.as_slice()))
+    let are_columns = columns.are_named(alloc, names.as_slice())?;
+    Ok(is_called(attribute, "map") || are_columns)
 }
 
 /// The place of an entry that is a wrong attribute of the model.
-fn wrong_on_model(
-    alloc: Global,
-    types: &Types,
-    model: &Block,
-    entry: &Entry,
-) -> Result<Option<usize>, Memory>
-    ensures { IfOk result (λ found. found ≡ first (failing (spec.is_over_columns types.now model.now) spec.attribute_place (option_to_list (block_attribute_of entry.now)))) }
+fn wrong_on_model(alloc: Global, columns: &Columns, entry: &Entry) -> Result<Option<usize>, Memory>
+    ensures { IfOk result (λ found. found ≡ first (failing (spec.is_over_columns columns.now.0 columns.now.1) spec.attribute_place (option_to_list (block_attribute_of entry.now)))) }
 {
     match entry {
         Entry::Setting { .. } => Ok(None),
         Entry::Member { .. } => Ok(None),
         Entry::Field { .. } => Ok(None),
         Entry::Block { attribute, .. } => {
-            let holds = is_over_columns(alloc, types, model, attribute)?;
+            let holds = is_over_columns(alloc, columns, attribute)?;
             Ok(noted(None, !holds, attribute.name.at))
         }
     }
+}
+
+/// The first place of a wrong attribute of the model, by its columns.
+fn wrong_on_entries(
+    alloc: Global,
+    columns: &Columns,
+    model: &Block,
+) -> Result<Option<usize>, Memory>
+    ensures { IfOk result (λ found. found ≡ first (failing (spec.is_over_columns columns.now.0 columns.now.1) spec.attribute_place (block_attributes model.now))) }
+{
+    let mut found = None;
+    for entry in model.entries.as_slice() {
+        found = earlier(found, wrong_on_model(alloc, columns, entry)?);
+    }
+    Ok(found)
 }
 
 /// The first place in a model of an attribute that stands wrongly.
 fn wrong_attribute(alloc: Global, types: &Types, model: &Block) -> Result<Option<usize>, Memory>
     ensures { IfOk result (λ found. found ≡ first (spec.wrong_attributes types.now model.now)) }
 {
-    let mut found = wrong_on_fields(types, model);
-    for entry in model.entries.as_slice() {
-        found = earlier(found, wrong_on_model(alloc, types, model, entry)?);
-    }
-    Ok(found)
+    let columns = Columns::of(alloc, types, model)?;
+    let on_model = wrong_on_entries(alloc, &columns, model)?;
+    Ok(earlier(wrong_on_fields(types, model), on_model))
 }
 
-/// Attributes stand on fields that may have them, and those of models name columns. Broken at the
-/// attribute's name.
+/// Rule V11: attributes stand on fields that may have them, and those of models name columns. Broken at
+/// the attribute's name.
 pub fn attributes_stand_rightly(alloc: Global, types: &Types) -> Result<Option<usize>, Memory>
     ensures { IfOk result (λ found. found ≡ first (spec.attributes_stand_rightly types.now)) }
 {

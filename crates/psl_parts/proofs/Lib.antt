@@ -1,8 +1,11 @@
+pub mod Distinct
 pub mod Entries
 pub mod Firsts
 pub mod Held
 pub mod Lookups
 pub mod Models
+pub mod Named
 pub mod Parted
+pub mod Placed
 pub mod Repeated
 pub mod Zips

@@ -8,7 +8,8 @@ use Rattle.std.proofs.lemmas.Slice.Eq.{bytes_eq-Decides}
 use Rattle.std.specs.Prelude.{bytes_eq}
 use Rattle.std.specs.List.{list_any}
 use Rattle.psl_text.specs.declared.tree.Name.{Name}
-use Rattle.psl_rules.specs.Parts.{earlier, noted, first, place, repeats_behind}
+use Rattle.psl_rules.specs.Parts.{earlier, noted, first, place}
+use Rattle.qe_text.specs.Lists.{repeats_behind}
 use Rattle.psl_rules.specs.Names.{same_name}
 use Rattle.psl_parts.proofs.Firsts.{earlier_assoc}
 

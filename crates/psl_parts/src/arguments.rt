@@ -1,5 +1,6 @@
 //! What attributes are called, and what their arguments give.
 ghost use Rattle.std.specs.Prelude.{◌≡◌, IfOk, OnOk, map, ◌++◌, option_copied};
+ghost use Rattle.qe_text.specs.Lists.{is_among};
 ghost use Rattle.psl_rules.specs.Parts as spec;
 
 use psl_text::{Argument, Attribute, Name, Term};
@@ -141,7 +142,7 @@ pub fn given_text<'a>(attribute: &'a Attribute, parameter: &str, alone: bool) ->
 
 /// Whether a name is one of these.
 pub fn is_among(name: &str, names: &[&str]) -> bool
-    ensures { result ≡ spec.is_among name.now (map (λ name. name.now) names.now) }
+    ensures { result ≡ is_among name.now (map (λ name. name.now) names.now) }
 {
     for other in names {
         if name == *other {

@@ -5,7 +5,8 @@ use Rattle.std.proofs.lemmas.List.Folds.{list_any-append}
 use Rattle.std.proofs.lemmas.Slice.Eq.{bytes_eq-Decides}
 use Rattle.std.specs.Prelude.{bytes_eq}
 use Rattle.std.specs.List.{list_any}
-use Rattle.psl_rules.specs.Parts.{Spelling, is_among}
+use Rattle.psl_rules.specs.Parts.{Spelling}
+use Rattle.qe_text.specs.Lists.{is_among}
 use Rattle.psl_rules.specs.Relations.{End, leads_to, other_names, own_names}
 use Rattle.psl_rules.specs.Updates.{goes_on}
 use Rattle.psl_relations.specs.Referred.{Named, refers_to, has_field}

@@ -7,7 +7,7 @@ use Rattle.std.proofs.lemmas.List.{drop_all, map-append, append-nil, append_asso
 use Rattle.std.proofs.lemmas.List.Elements.{filter-append}
 use Rattle.std.specs.Cmp.Lexicographic.{nat_list_eq_equiv}
 use Rattle.psl_rules.specs.Parts.{Spelling}
-use Rattle.psl_rules.specs.Relations.{End, end_place, leads_to, relation_name, same_relation, partners_among, has_one_partner}
+use Rattle.psl_rules.specs.Relations.{End, leads_to, relation_name, same_relation, partners_among, has_one_partner}
 use Rattle.psl_parts.proofs.Firsts.{left_at}
 use Rattle.psl_relations.specs.Back.{Side, same_text, same_side, is_on, leads_back}
 
@@ -100,7 +100,7 @@ looked_up items got none result under back end ends all group group_is is got_is
 -- ---- partners among those
 
 abbrev is_other : End → End → Bool
-is_other end other = not (end_place end == end_place other)
+is_other end other = not (end.number == other.number)
 
 twice : (test then : End → Bool) (xs : List End) → filter then (filter test xs) ≡ filter (λ x. test x && then x) xs
 twice test then [] = refl
@@ -114,7 +114,7 @@ twice test then (x ∷ xs) = by_test (test x) refl (twice test then xs)
         ap (λ b. filter then (cond b (x ∷ filter test xs) (filter test xs))) is ∙ h
         ∙ sym (ap (λ b. cond (b && then x) (x ∷ filter (λ x. test x && then x) xs) (filter (λ x. test x && then x) xs)) is)
 
-pub partners_back : (end : End) (ends : List End) → filter (λ other. not (end_place end == end_place other)) (filter (leads_back end) ends) ≡ partners_among ends end
+pub partners_back : (end : End) (ends : List End) → filter (λ other. not (end.number == other.number)) (filter (leads_back end) ends) ≡ partners_among ends end
 partners_back end ends = twice (leads_back end) (is_other end) ends
 
 -- ---- one alone

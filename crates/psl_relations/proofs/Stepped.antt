@@ -4,7 +4,8 @@ use Rattle.std.specs.Prelude.{bytes_eq, option_copied, unwrap_or}
 use Rattle.std.specs.Option.{option_map_or}
 use Rattle.std.proofs.lemmas.List.{map-append, append-nil, append_assoc, drop_more}
 use Rattle.std.proofs.lemmas.List.Elements.{filter-append}
-use Rattle.psl_rules.specs.Parts.{Spelling, is_among}
+use Rattle.psl_rules.specs.Parts.{Spelling}
+use Rattle.qe_text.specs.Lists.{is_among}
 use Rattle.psl_rules.specs.Updates.{Step}
 use Rattle.psl_parts.proofs.Firsts.{left_at}
 use Rattle.psl_parts.proofs.Lookups.{has, inserted}

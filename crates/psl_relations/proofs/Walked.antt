@@ -6,9 +6,10 @@ use Rattle.std.proofs.lemmas.Option.{get_or_from_slice_get}
 use Rattle.std.proofs.lemmas.Slice.Eq.{bytes_eq-Decides}
 use Rattle.std.specs.Prelude.{bytes_eq, slice_get}
 use Rattle.std.specs.List.{list_any}
-use Rattle.psl_rules.specs.Parts.{Spelling, is_among, first, earlier, noted, failing}
+use Rattle.psl_rules.specs.Parts.{Spelling, first, earlier, noted, failing}
+use Rattle.qe_text.specs.Lists.{is_among, In}
 use Rattle.psl_rules.specs.Relations.{End, end_place}
-use Rattle.psl_rules.specs.Updates.{Step, In, Leads, leads, is_on_cycle}
+use Rattle.psl_rules.specs.Updates.{Step, Leads, leads, is_on_cycle}
 use Rattle.psl_rules.proofs.Steps.{any_mapped, same_spelling, leads_sound, leads_complete}
 use Rattle.psl_parts.proofs.Firsts.{turn_failing, failing_map}
 use Rattle.psl_parts.proofs.Lookups.{has}

@@ -2,7 +2,8 @@
 use Rattle.std.specs.Prelude.{◌≡◌, Bool, List, ◌&&◌, bytes_eq}
 use Rattle.std.specs.Borrow.{Bor}
 use Rattle.std.specs.List.{list_any}
-use Rattle.psl_rules.specs.Parts.{Spelling, is_among}
+use Rattle.psl_rules.specs.Parts.{Spelling}
+use Rattle.qe_text.specs.Lists.{is_among}
 use Rattle.psl_rules.specs.Relations.{End, other_names}
 
 -- the foreign key refers to the field of this name, of the model of this name

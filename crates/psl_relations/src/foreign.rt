@@ -1,7 +1,8 @@
 //! The foreign keys of relations, and what happens to their rows.
 ghost use Rattle.std.specs.Prelude.{◌≡◌, IfOk, map, filter, option_copied};
 ghost use Rattle.std.specs.List.{list_any, list_all};
-ghost use Rattle.psl_rules.specs.Parts.{first, failing, given_name, is_among};
+ghost use Rattle.psl_rules.specs.Parts.{first, failing, given_name};
+ghost use Rattle.qe_text.specs.Lists.{is_among};
 ghost use Rattle.psl_rules.specs.Parts as parts;
 ghost use Rattle.psl_rules.specs.Attributes.{name_columns};
 ghost use Rattle.psl_rules.specs.Keys.{is_within, are_same_set, is_key_of};
@@ -11,7 +12,7 @@ ghost use Rattle.psl_rules.specs.Foreign as spec;
 use crate::models::Models;
 use crate::relations::{End, Pair, ends, pairs, partners};
 use crate::sides::Sides;
-use psl_fields::{id_names, keys_of};
+use psl_keys::{id_names, keys_of};
 use psl_parts::{
     Types, are_optional, are_required, earlier, fields_named, given, have_same_types, is_among,
     name_columns, name_in, noted,

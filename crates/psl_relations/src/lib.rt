@@ -8,8 +8,6 @@ mod referred;
 mod relations;
 mod sides;
 mod stored;
-#[cfg(test)]
-mod tests;
 mod updates;
 mod walks;
 

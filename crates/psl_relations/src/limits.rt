@@ -1,13 +1,12 @@
 //! How many tables, fields and members there may be.
 ghost use Rattle.std.specs.Prelude.{◌≡◌, IfOk, map};
 ghost use Rattle.std.specs.List.{flat_map};
-ghost use Rattle.psl_rules.specs.Parts.{first, place, models, enums};
+ghost use Rattle.psl_rules.specs.Parts.{first, models, enums};
 ghost use Rattle.psl_rules.specs.Names.{field_names, member_names};
 ghost use Rattle.psl_rules.specs.Stored as spec;
 
 use crate::stored::{references, stored_tables};
-use psl_fields::{field_names, member_names};
-use psl_parts::{Types, blocks_of, earlier, noted};
+use psl_parts::{Types, blocks_of, earlier, field_names, member_names};
 use psl_text::{Block, Name, Tree, Word};
 use qe_text::Memory;
 use std::alloc::Global;
@@ -18,26 +17,15 @@ const MOST_FIELDS: usize = 128;
 
 const MOST_MEMBERS: usize = 1000;
 
-/// The first of the names' places.
-fn first_place(names: &[&Name]) -> Option<usize>
-    ensures { result ≡ first (map place (map (λ name. name.now) names.now)) }
-{
-    let mut found = None;
-    for name in names {
-        found = noted(found, true, name.at);
-    }
-    found
-}
-
-/// The first place of the names behind so many.
+/// The place of the first name behind so many.
+#[tactic(auto, using(crate::proofs::Beyond::next_beyond, crate::proofs::Beyond::none_beyond))]
 fn first_beyond(most: usize, names: &[&Name]) -> Option<usize>
     ensures { result ≡ first (spec.beyond most (map (λ name. name.now) names.now)) }
 {
-    if names.len() <= most {
-        None
+    if most < names.len() {
+        Some(names[most].at)
     } else {
-        let (_, others) = names.split_at(most);
-        first_place(others)
+        None
     }
 }
 
@@ -88,8 +76,8 @@ fn table_beyond(alloc: Global, types: &Types) -> Result<Option<usize>, Memory>
     Ok(first_beyond(MOST_TABLES, names.as_slice()))
 }
 
-/// There are at most 256 tables, 128 fields in a model, and 1,000 members in an enum. Broken at the
-/// names of those beyond.
+/// Rule V26: there are at most 256 tables, 128 fields in a model, and 1,000 members in an enum. Broken at
+/// the first name beyond: of the tables in their order, of a model's fields, and of an enum's members.
 #[tactic(auto, using(psl_parts::proofs::Firsts::first_append))]
 pub fn limits_hold(alloc: Global, types: &Types) -> Result<Option<usize>, Memory>
     ensures { IfOk result (λ found. found ≡ first (spec.limits_hold types.now)) }

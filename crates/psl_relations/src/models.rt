@@ -7,8 +7,7 @@ ghost use Rattle.psl_relations.specs.Back.{same_text};
 ghost use Rattle.psl_relations.specs.Called.{is_called};
 
 use crate::relations::End;
-use psl_groups::grouped;
-use psl_parts::{Types, blocks_of};
+use psl_parts::{Types, blocks_of, grouped};
 use psl_text::{Block, Tree, Word};
 use qe_text::Memory;
 use std::alloc::Global;

@@ -1,7 +1,7 @@
 //! Fields that foreign keys refer to, to look up.
 ghost use Rattle.std.specs.Prelude.{◌≡◌, ◌&&◌, ◌||◌, IfOk, OnOk, map, filter, bytes_eq};
 ghost use Rattle.std.specs.List.{list_any};
-ghost use Rattle.psl_rules.specs.Parts.{is_among};
+ghost use Rattle.qe_text.specs.Lists.{is_among};
 ghost use Rattle.psl_rules.specs.Relations.{has_fields};
 ghost use Rattle.psl_relations.specs.Referred as spec;
 

@@ -1,5 +1,6 @@
 //! Relations: pairs of fields that lead to each other's model.
-ghost use Rattle.std.specs.Prelude.{◌≡◌, ◌==◌, ◌++◌, IfOk, OnOk, map, not, option_copied};
+ghost use Rattle.std.specs.Prelude.{◌≡◌, ◌==◌, ◌++◌, IfOk, OnOk, map, length, not, option_copied};
+ghost use Rattle.std.specs.List.{enumerate_from};
 ghost use Rattle.psl_rules.specs.Parts.{first, failing};
 ghost use Rattle.psl_rules.specs.Names.{is_optional};
 ghost use Rattle.psl_rules.specs.Relations as spec;
@@ -11,9 +12,10 @@ use qe_text::Memory;
 use std::alloc::Global;
 use std::marker::Model;
 
-/// One end of a relation: a field, and the model that it stands in.
+/// One end of a relation: a field, the model that it stands in, and its number among all such fields.
 #[derive(Drop)]
 pub struct End<'a> {
+    number: usize,
     model: &'a Block,
     field: Field<'a>,
 }
@@ -27,15 +29,26 @@ impl<'a> Model for End<'a> {
 
     ghost coded = { Prim.hlevel (codes, term.the_row.coded) };
 
-    ghost view = { λ e. record { model = e.model.now; field = e.field } };
+    ghost view = { λ e. record { number = e.number; model = e.model.now; field = e.field } };
 }
 
 impl<'a> End<'a> {
-    /// A field as an end, in its model.
-    pub fn of(model: &'a Block, field: Field<'a>) -> End<'a>
-        ensures { result ≡ spec.end_in model.now field.entry }
+    /// A field as an end, in its model, with its number.
+    pub fn of(number: usize, model: &'a Block, field: Field<'a>) -> End<'a>
+        ensures { result ≡ spec.end_at (number, spec.standing_in model.now field.entry) }
     {
-        End { model, field }
+        End {
+            number,
+            model,
+            field,
+        }
+    }
+
+    /// The number among the fields that lead to models.
+    fn number(&self) -> usize
+        ensures { result ≡ self.now.number }
+    {
+        self.number
     }
 
     pub fn model(&self) -> &'a Block
@@ -143,10 +156,10 @@ impl<'a> End<'a> {
     }
 
     /// Whether the other is another field.
-    fn is_other(&self, other: &End) -> bool
-        ensures { result ≡ not (spec.end_place self.now == spec.end_place other.now) }
+    pub fn is_other(&self, other: &End) -> bool
+        ensures { result ≡ not (self.now.number == other.now.number) }
     {
-        self.place() != other.place()
+        self.number() != other.number()
     }
 
     fn stands_together(&self) -> bool
@@ -230,7 +243,7 @@ impl<'e, 'a> Pair<'e, 'a> {
 
 /// Appends the fields of a model that lead to models.
 fn push_ends<'a>(ends: &mut Vec<End<'a>>, types: &Types, model: &'a Block) -> Result<(), Memory>
-    ensures { OnOk result (ends.new.items ≡ ends.old.items ++ spec.ends_of types.now model.now) }
+    ensures { OnOk result (ends.new.items ≡ ends.old.items ++ map spec.end_at (enumerate_from (length ends.old.items) (spec.leading_of types.now model.now))) }
 {
     for entry in model.entries.as_slice() {
         if let Entry::Field {
@@ -248,14 +261,14 @@ fn push_ends<'a>(ends: &mut Vec<End<'a>>, types: &Types, model: &'a Block) -> Re
                     mark: *mark,
                     attributes: attributes.as_slice(),
                 };
-                ends.push(End { model, field })?;
+                ends.push(End::of(ends.len(), model, field))?;
             }
         }
     }
     Ok(())
 }
 
-/// The fields that lead to models, in text order.
+/// The fields that lead to models, in text order and numbered from 0.
 pub fn ends<'a>(alloc: Global, types: &Types<'a>) -> Result<Vec<End<'a>>, Memory>
     ensures { IfOk result (λ ends. ends.items ≡ spec.ends types.now) }
 {
@@ -330,7 +343,7 @@ fn push_pairs<'e, 'a>(
     ensures { OnOk result (pairs.new.items ≡ pairs.old.items ++ spec.pairs_with end.now (map (λ other. other.now) partners.now)) }
 {
     for other in partners {
-        if end.place() < other.place() {
+        if end.number() < other.number() {
             pairs.push(Pair {
                 first: end,
                 second: other,

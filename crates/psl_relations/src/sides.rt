@@ -4,7 +4,7 @@ ghost use Rattle.psl_rules.specs.Relations.{relation_name};
 ghost use Rattle.psl_relations.specs.Back as spec;
 
 use crate::relations::End;
-use psl_groups::grouped;
+use psl_parts::grouped;
 use qe_text::Memory;
 use std::alloc::Global;
 use std::collections::HashMap;

@@ -4,14 +4,14 @@ ghost use Rattle.std.specs.Prelude.{◌≡◌, ◌==◌, ◌&&◌, ◌||◌, ◌
 ghost use Rattle.std.specs.List.{list_any, flat_map, starts_with};
 ghost use Rattle.std.specs.Str.{str_to_ascii_lowercase};
 ghost use Rattle.qe_text.specs.Names.{is_stored_name};
-ghost use Rattle.psl_rules.specs.Parts.{first, failing, place, models, block_attributes, given_text, is_among};
+ghost use Rattle.psl_rules.specs.Parts.{first, failing, place, models, block_attributes, given_text};
+ghost use Rattle.qe_text.specs.Lists.{is_among};
 ghost use Rattle.psl_rules.specs.Names.{scalar_names, names_enum};
 ghost use Rattle.psl_rules.specs.Relations.{is_linked, relation_name};
 ghost use Rattle.psl_rules.specs.Stored as spec;
 
 use crate::relations::{Pair, ends, pairs};
-use psl_fields::is_scalar;
-use psl_parts::{Types, blocks_of, earlier, first_repeat, given_text, is_called, noted};
+use psl_parts::{Types, blocks_of, earlier, first_repeat, given_text, is_called, is_scalar, noted};
 use psl_text::{Attribute, Block, Entry, Name, Word};
 use qe_text::{Memory, Text};
 use std::alloc::Global;

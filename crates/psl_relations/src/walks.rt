@@ -2,7 +2,8 @@
 ghost use Rattle.std.specs.Prelude.{◌≡◌, ◌||◌, IfOk, OnOk, filter, map, bytes_eq};
 ghost use Rattle.std.specs.Borrow.{Bor};
 ghost use Rattle.std.specs.List.{list_any};
-ghost use Rattle.psl_rules.specs.Parts.{Spelling, is_among};
+ghost use Rattle.psl_rules.specs.Parts.{Spelling};
+ghost use Rattle.qe_text.specs.Lists.{is_among};
 ghost use Rattle.psl_rules.specs.Known.{Holds};
 ghost use Rattle.psl_rules.specs.Updates as spec;
 ghost use Rattle.psl_relations.specs.Back.{same_text};
@@ -10,7 +11,7 @@ ghost use Rattle.psl_relations.specs.Walks.{leads_from, Begins};
 
 use crate::relations::End;
 use indexmap::IndexSet;
-use psl_groups::grouped;
+use psl_parts::grouped;
 use qe_text::Memory;
 use std::alloc::Global;
 use std::collections::HashMap;

@@ -4,8 +4,9 @@ use Rattle.std.proofs.lemmas.List.Folds.{list_any-append}
 use Rattle.std.proofs.lemmas.Slice.Eq.{bytes_eq-Decides}
 use Rattle.std.specs.Prelude.{bytes_eq}
 use Rattle.std.specs.List.{list_any, list_all}
-use Rattle.psl_rules.specs.Parts.{Spelling, is_among}
-use Rattle.psl_rules.specs.Updates.{Step, In, Leads, reached, leads}
+use Rattle.psl_rules.specs.Parts.{Spelling}
+use Rattle.qe_text.specs.Lists.{is_among, In}
+use Rattle.psl_rules.specs.Updates.{Step, Leads, reached, leads}
 
 -- ---- tests
 

@@ -4,7 +4,8 @@ use Rattle.std.specs.List.{list_any, list_all, flat_map}
 use Rattle.psl_text.specs.declared.tree.Attribute.{Attribute}
 use Rattle.psl_text.specs.declared.tree.Block.{Block}
 use Rattle.psl_text.specs.declared.tree.Tree.{Tree}
-use Rattle.psl_rules.specs.Parts.{Spelling, Places, ModelField, models, enums, fields, members, block_attributes, is_called, given_names, failing, repeats, is_among}
+use Rattle.psl_rules.specs.Parts.{Spelling, Places, ModelField, models, enums, fields, members, block_attributes, is_called, given_names, failing}
+use Rattle.qe_text.specs.Lists.{repeats, is_among}
 use Rattle.psl_rules.specs.Names.{same_name, names_model, is_value_type, is_column}
 use Rattle.psl_rules.specs.Arguments.{Parameter, field_parameters, model_parameters, arguments_fit}
 
@@ -29,7 +30,7 @@ unknown_in_model model = flat_map (λ field. unknown field_attribute_names field
 abbrev pub unknown_in_enum : Block → Places
 unknown_in_enum enum = flat_map (λ member. unknown [] member.attributes) (members enum) ++ unknown [] (block_attributes enum)
 
--- Fields and models have attributes of known names alone, enums and members have none. Broken at the
+-- V8. Fields and models have attributes of known names alone, enums and members have none. Broken at the
 -- attribute's name.
 abbrev pub attributes_are_known : Tree → Places
 attributes_are_known tree = flat_map unknown_in_model (models tree) ++ flat_map unknown_in_enum (enums tree)
@@ -48,7 +49,7 @@ repeated attributes = map attribute_place (repeats same_attribute attributes)
 abbrev pub repeated_in_model : Block → Places
 repeated_in_model model = flat_map (λ field. repeated field.attributes) (fields model) ++ repeated (filter stands_once (block_attributes model))
 
--- No field has an attribute twice, and no model has `@@id` or `@@map` twice. Broken at the later name.
+-- V9. No field has an attribute twice, and no model has `@@id` or `@@map` twice. Broken at the later name.
 abbrev pub attributes_stand_once : Tree → Places
 attributes_stand_once tree = flat_map repeated_in_model (models tree)
 
@@ -59,7 +60,7 @@ misgiven parameters attributes = failing (λ attribute. arguments_fit (parameter
 abbrev pub misgiven_in_model : Block → Places
 misgiven_in_model model = flat_map (λ field. misgiven field_parameters field.attributes) (fields model) ++ misgiven model_parameters (block_attributes model)
 
--- Each attribute has the arguments that it takes. Broken at its name.
+-- V10. Each attribute has the arguments that it takes. Broken at its name.
 abbrev pub arguments_are_right : Tree → Places
 arguments_are_right tree = flat_map misgiven_in_model (models tree)
 
@@ -94,7 +95,7 @@ wrong_on_fields tree fields = flat_map (λ field. failing (stands_rightly tree f
 abbrev pub wrong_attributes : Tree → Block → Places
 wrong_attributes tree model = wrong_on_fields tree (fields model) ++ failing (is_over_columns tree model) attribute_place (block_attributes model)
 
--- Attributes stand on fields that may have them, and those of models name columns. Broken at the
+-- V11. Attributes stand on fields that may have them, and those of models name columns. Broken at the
 -- attribute's name.
 abbrev pub attributes_stand_rightly : Tree → Places
 attributes_stand_rightly tree = flat_map (wrong_attributes tree) (models tree)

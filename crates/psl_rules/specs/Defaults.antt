@@ -11,7 +11,8 @@ use Rattle.psl_text.specs.declared.tree.Tree.{Tree}
 use Rattle.qe_scalars.specs.Numbers.{is_small, is_big, number_within}
 use Rattle.qe_scalars.specs.Moments.{moment_of}
 use Rattle.qe_scalars.specs.Bytes.{bytes_of}
-use Rattle.psl_rules.specs.Parts.{Spelling, Places, ModelField, Member, models, enums, fields, members, is_called, attribute_named, given, text_in, name_in, calls, failing, is_among}
+use Rattle.psl_rules.specs.Parts.{Spelling, Places, ModelField, Member, models, enums, fields, members, is_called, attribute_named, given, text_in, name_in, calls, failing}
+use Rattle.qe_text.specs.Lists.{is_among}
 use Rattle.psl_rules.specs.Names.{same_name}
 use Rattle.psl_rules.specs.Attributes.{attribute_place}
 use Rattle.psl_rules.specs.Keys.{id_names, are_same_set}
@@ -56,7 +57,7 @@ fits_type tree type value =
 abbrev pub default_fits : Tree → ModelField → Attribute → Bool
 default_fits tree field attribute = not (is_default attribute) || passes (fits_type tree field.type.text) (default_in attribute)
 
--- A default is one of its field's type. Broken at the attribute's name.
+-- V14. A default is one of its field's type. Broken at the attribute's name.
 abbrev pub defaults_fit : Tree → Places
 defaults_fit tree = flat_map (λ model. flat_map (λ field. failing (default_fits tree field) attribute_place field.attributes) (fields model)) (models tree)
 
@@ -78,6 +79,6 @@ wrong_counters ids fields = flat_map (λ field. failing (counts_rightly ids fiel
 abbrev pub counters_of : Block → Places
 counters_of model = wrong_counters (id_names model) (fields model)
 
--- `autoincrement()` stands on a field that alone is the id. Broken at the attribute's name.
+-- V15. `autoincrement()` stands on a field that alone is the id. Broken at the attribute's name.
 abbrev pub counters_are_ids : Tree → Places
 counters_are_ids tree = flat_map counters_of (models tree)

@@ -3,7 +3,8 @@ use Rattle.std.specs.Prelude.{ℕ, List, [], ◌∷◌, ◌++◌, Bool, true, fa
 use Rattle.std.specs.List.{list_any, list_all, find, filter_map, zip}
 use Rattle.psl_text.specs.declared.tree.Block.{Block}
 use Rattle.psl_text.specs.declared.tree.Tree.{Tree}
-use Rattle.psl_rules.specs.Parts.{Spelling, Places, ModelField, models, fields, given_name, failing, is_among}
+use Rattle.psl_rules.specs.Parts.{Spelling, Places, ModelField, models, fields, given_name, failing}
+use Rattle.qe_text.specs.Lists.{is_among}
 use Rattle.psl_rules.specs.Names.{is_optional}
 use Rattle.psl_rules.specs.Attributes.{name_columns}
 use Rattle.psl_rules.specs.Keys.{is_key_of, id_names}
@@ -32,7 +33,7 @@ refers_to_columns tree models end = of_target models end (λ model. name_columns
 abbrev pub names_columns : Tree → List Block → End → Bool
 names_columns tree models end = name_columns tree end.model (own_names end) && refers_to_columns tree models end && length (own_names end) == length (other_names end)
 
--- `fields` and `references` name columns, equally many, of the own and of the other model. Broken at the
+-- V18. `fields` and `references` name columns, equally many, of the own and of the other model. Broken at the
 -- name of the field with `fields`.
 abbrev pub references_are_columns : Tree → Places
 references_are_columns tree = failing (names_columns tree (models tree)) end_place (holders tree)
@@ -47,7 +48,7 @@ has_types_of end model = list_all have_same_type (zip (fields_named end.model (o
 abbrev pub has_types_among : List Block → End → Bool
 has_types_among models end = of_target models end (has_types_of end)
 
--- A field and the one that it refers to have the same type.
+-- V19. A field and the one that it refers to have the same type.
 abbrev pub references_have_the_type : Tree → Places
 references_have_the_type tree = failing (has_types_among (models tree)) end_place (holders tree)
 
@@ -61,7 +62,7 @@ key_fields end = fields_named end.model (own_names end)
 abbrev pub is_all_or_none : End → Bool
 is_all_or_none end = (is_required end.field && list_all is_required (key_fields end)) || (is_optional end.field.mark && list_all (λ field. is_optional field.mark) (key_fields end))
 
--- A relation and all fields of its foreign key are optional, or all are required.
+-- V20. A relation and all fields of its foreign key are optional, or all are required.
 abbrev pub foreign_keys_are_whole : Tree → Places
 foreign_keys_are_whole tree = failing is_all_or_none end_place (holders tree)
 
@@ -72,7 +73,7 @@ are_required_key model names = is_key_of model names && list_all is_required (fi
 abbrev pub refers_to_key : List Block → End → Bool
 refers_to_key models end = of_target models end (λ model. are_required_key model (other_names end))
 
--- What is referred to is a key of required fields.
+-- V21. What is referred to is a key of required fields.
 abbrev pub references_are_keys : Tree → Places
 references_are_keys tree = failing (refers_to_key (models tree)) end_place (holders tree)
 
@@ -88,7 +89,7 @@ has_single_id end = length (id_names end.model) == 1
 abbrev pub links_single_ids : Pair → Bool
 links_single_ids pair = not (is_linked pair) || (has_single_id pair.first && has_single_id pair.second)
 
--- The foreign key of a one-to-one relation is a key of its own model, and models that are linked by two
+-- V22. The foreign key of a one-to-one relation is a key of its own model, and models that are linked by two
 -- lists have ids of one field. Broken at the name of the field with `fields`, or of the pair's first field.
 abbrev pub one_to_one_is_unique : Tree → Places
 one_to_one_is_unique tree = failing (is_once (ends tree)) end_place (holders tree) ++ failing links_single_ids pair_place (pairs tree)
@@ -109,7 +110,7 @@ may_be_action end (Some name) = is_among name action_names && (not (bytes_eq nam
 abbrev pub acts_rightly : End → Bool
 acts_rightly end = may_be_action end (action (codes "onDelete") end) && may_be_action end (action (codes "onUpdate") end)
 
--- Actions are Cascade, Restrict or SetNull, and SetNull stands on optional relations. Broken at the
+-- V23. Actions are Cascade, Restrict or SetNull, and SetNull stands on optional relations. Broken at the
 -- field's name.
 abbrev pub actions_are_known : Tree → Places
 actions_are_known tree = failing acts_rightly end_place (ends tree)

@@ -6,7 +6,8 @@ use Rattle.psl_text.specs.declared.tree.Entry.{Entry}
 use Rattle.psl_text.specs.declared.tree.Entry.TheVariants as entry
 use Rattle.psl_text.specs.declared.tree.Block.{Block}
 use Rattle.psl_text.specs.declared.tree.Tree.{Tree}
-use Rattle.psl_rules.specs.Parts.{Spelling, Places, ModelField, models, fields, block_attributes, is_called, has_attribute, given_names, given_text, place, repeats, is_among}
+use Rattle.psl_rules.specs.Parts.{Spelling, Places, ModelField, models, fields, block_attributes, is_called, has_attribute, given_names, given_text, place}
+use Rattle.qe_text.specs.Lists.{repeats, is_among}
 use Rattle.psl_rules.specs.Names.{same_name, is_optional}
 use Rattle.psl_rules.specs.declared.key.Key.{Key}
 
@@ -57,7 +58,7 @@ optional_ids named fields = map (λ field. field.name.at) (filter (is_optional_i
 abbrev pub broken_ids : Block → Places
 broken_ids model = one_id_of model (ids_of model) ++ optional_ids (named_id model) (fields model)
 
--- A model has one id, whose fields are required. Broken at each further id, at the model's name, and
+-- V12. A model has one id, whose fields are required. Broken at each further id, at the model's name, and
 -- at each optional field of the id.
 abbrev pub one_id : Tree → Places
 one_id tree = flat_map broken_ids (models tree)
@@ -113,7 +114,7 @@ broken_keys model =
     map key_place (repeats same_fields (keys_of model)) ++ map place (repeats same_name (map (λ key. key.name) (filter is_long (keys_of model))))
     ++ map key_place (filter (λ key. is_long key && names_field model key.name.text) (keys_of model))
 
--- No two keys of a model have the same fields, and the names of longer keys differ from each other and
+-- V13. No two keys of a model have the same fields, and the names of longer keys differ from each other and
 -- from those of the fields. Broken at the later attribute's name, and at that of a key which is named as a field.
 abbrev pub keys_are_distinct : Tree → Places
 keys_are_distinct tree = flat_map broken_keys (models tree)

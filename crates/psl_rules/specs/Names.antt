@@ -10,13 +10,14 @@ use Rattle.psl_text.specs.declared.tree.Block.{Block}
 use Rattle.psl_text.specs.declared.tree.Tree.{Tree}
 pub use Rattle.psl_rules.specs.Parts.{same_name}
 use Rattle.psl_rules.specs.Settings.{some_of}
-use Rattle.psl_rules.specs.Parts.{Spelling, Places, ModelField, models, enums, same_word, fields, members, place, failing, repeats, is_among}
+use Rattle.psl_rules.specs.Parts.{Spelling, Places, ModelField, models, enums, same_word, fields, members, place, failing}
+use Rattle.qe_text.specs.Lists.{repeats, is_among}
 
 -- the names of models and enums, in text order
 abbrev pub type_names : Tree → List Name
 type_names tree = map (λ block. block.name) (filter (λ block. same_word block.word word.Model || same_word block.word word.Enum) tree.blocks)
 
--- The names of models and enums differ, and none is the name of a type. Broken at the later name, and
+-- V4. The names of models and enums differ, and none is the name of a type. Broken at the later name, and
 -- at a type's name.
 abbrev pub type_names_are_distinct : Tree → Places
 type_names_are_distinct tree = failing (λ name. not (is_among name.text reserved_names)) place (type_names tree) ++ map place (repeats same_name (type_names tree))
@@ -35,7 +36,7 @@ repeated_fields model = failing (λ name. not (is_among name.text filter_names))
 abbrev pub repeated_members : Block → Places
 repeated_members enum = some_of enum.name.at (members enum) ++ map place (repeats same_name (member_names enum))
 
--- The fields of a model have different names, and none is a filter's. An enum has members, with
+-- V5. The fields of a model have different names, and none is a filter's. An enum has members, with
 -- different names. Broken at the later name, at a filter's name, and at the name of an enum without members.
 abbrev pub field_names_are_distinct : Tree → Places
 field_names_are_distinct tree = flat_map repeated_fields (models tree) ++ flat_map repeated_members (enums tree)
@@ -81,7 +82,7 @@ type_place field = field.type.at
 abbrev pub unknown_types : Tree → Block → Places
 unknown_types tree model = failing (λ field. is_column tree field || is_relation tree field) type_place (fields model)
 
--- Each field's type is a scalar, an enum or a model. Broken at the type.
+-- V6. Each field's type is a scalar, an enum or a model. Broken at the type.
 abbrev pub types_are_known : Tree → Places
 types_are_known tree = flat_map (unknown_types tree) (models tree)
 
@@ -89,6 +90,6 @@ types_are_known tree = flat_map (unknown_types tree) (models tree)
 abbrev pub other_lists : Tree → Block → Places
 other_lists tree model = failing (λ field. not (is_many field.mark) || is_relation tree field) type_place (fields model)
 
--- Lists are of models alone. Broken at the type.
+-- V7. Lists are of models alone. Broken at the type.
 abbrev pub lists_are_of_models : Tree → Places
 lists_are_of_models tree = flat_map (other_lists tree) (models tree)

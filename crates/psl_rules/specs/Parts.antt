@@ -52,17 +52,6 @@ first (at ∷ places) = earlier (Some at) (first places)
 abbrev pub failing : {A : Type 0} → (A → Bool) → (A → ℕ) → List A → Places
 failing holds at items = map at (filter (λ item. not (holds item)) items)
 
-abbrev pub repeats_behind : {A : Type 0} → (A → A → Bool) → List A → List A → List A
-repeats_behind same before [] = []
-repeats_behind same before (item ∷ items) = if list_any (same item) before then item ∷ repeats_behind same (before ++ item ∷ []) items else repeats_behind same (before ++ item ∷ []) items
-
--- the items that are the same as one that stands before them
-abbrev pub repeats : {A : Type 0} → (A → A → Bool) → List A → List A
-repeats same = repeats_behind same []
-
-abbrev pub is_among : Spelling → List Spelling → Bool
-is_among name = list_any (bytes_eq name)
-
 -- ---- blocks
 
 unfoldable pub same_word : Word → Word → Bool

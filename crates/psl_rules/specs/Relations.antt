@@ -1,30 +1,39 @@
 -- Relations: pairs of fields that lead to each other's model.
 use Rattle.std.specs.Prelude.{ℕ, List, [], ◌∷◌, ◌++◌, Bool, true, false, ◌&&◌, ◌||◌, ◌==◌, not, length, nat_lt, map, filter, Option, Some, None, is_some, option_map, option_and_then, unwrap_or, bytes_eq, codes}
-use Rattle.std.specs.List.{flat_map}
+use Rattle.std.specs.List.{flat_map, enumerate_from}
 use Rattle.psl_text.specs.declared.tree.Attribute.{Attribute}
 use Rattle.psl_text.specs.declared.tree.Block.{Block}
 use Rattle.psl_text.specs.declared.tree.Tree.{Tree}
 use Rattle.psl_rules.specs.Parts.{Spelling, Places, ModelField, models, fields, attribute_named, given, given_text, given_names, failing}
 use Rattle.psl_rules.specs.Names.{is_relation, is_many, is_optional}
 
--- one end of a relation: a field, and the model that it stands in
+-- one end of a relation: a field, the model that it stands in, and its number among all such fields
 pub record End : Type 0 where
+  pub number : ℕ
   pub model : Block
   pub field : ModelField
 
 abbrev pub end_place : End → ℕ
 end_place end = end.field.name.at
 
-abbrev pub end_in : Block → ModelField → End
-end_in model field = record { model = model; field = field }
+-- a field in its model
+pub record Standing : Type 0 where
+  pub model : Block
+  pub field : ModelField
+
+abbrev pub standing_in : Block → ModelField → Standing
+standing_in model field = record { model = model; field = field }
 
 -- the fields of a model that lead to models
-abbrev pub ends_of : Tree → Block → List End
-ends_of tree model = map (end_in model) (filter (is_relation tree) (fields model))
+abbrev pub leading_of : Tree → Block → List Standing
+leading_of tree model = map (standing_in model) (filter (is_relation tree) (fields model))
 
--- the fields that lead to models, in text order
+abbrev pub end_at : ℕ × Standing → End
+end_at numbered = record { number = numbered.0; model = numbered.1.model; field = numbered.1.field }
+
+-- the fields that lead to models, in text order and numbered from 0
 abbrev pub ends : Tree → List End
-ends tree = flat_map (ends_of tree) (models tree)
+ends tree = map end_at (enumerate_from 0 (flat_map (leading_of tree) (models tree)))
 
 -- ---- what `@relation` gives
 
@@ -71,9 +80,9 @@ same_relation (Some name) (Some other) = bytes_eq name other
 abbrev pub leads_to : End → Block → Bool
 leads_to end model = bytes_eq end.field.type.text model.name.text
 
--- the other end leads back, by the same relation, and is another field
+-- the other end leads back, by the same relation, and is another field, whatever it is called
 abbrev pub is_partner : End → End → Bool
-is_partner end other = leads_to end other.model && leads_to other end.model && same_relation (relation_name end) (relation_name other) && not (end_place end == end_place other)
+is_partner end other = leads_to end other.model && leads_to other end.model && same_relation (relation_name end) (relation_name other) && not (end.number == other.number)
 
 -- the partners of an end among these
 abbrev pub partners_among : List End → End → List End
@@ -82,7 +91,7 @@ partners_among ends end = filter (is_partner end) ends
 abbrev pub has_one_partner : List End → End → Bool
 has_one_partner ends end = length (partners_among ends end) == 1
 
--- Each field that leads to a model has exactly one partner. Broken at its name.
+-- V16. Each field that leads to a model has exactly one partner. Broken at its name.
 abbrev pub ends_are_paired : Tree → Places
 ends_are_paired tree = failing (has_one_partner (ends tree)) end_place (ends tree)
 
@@ -97,7 +106,7 @@ abbrev pub pair_of : End → End → Pair
 pair_of end other = record { first = end; second = other }
 
 abbrev pub stands_before : End → End → Bool
-stands_before end other = nat_lt (end_place end) (end_place other)
+stands_before end other = nat_lt end.number other.number
 
 abbrev pub pairs_with : End → List End → List Pair
 pairs_with end others = map (pair_of end) (filter (stands_before end) others)
@@ -126,7 +135,7 @@ abbrev pub is_pair : Pair → Bool
 is_pair pair =
     stand_together pair.first && stand_together pair.second && (is_held_by pair.first pair.second || is_held_by pair.second pair.first || is_linked pair)
 
--- `fields` and `references` stand together, on one side that is no list, and the other side is a list or
+-- V17. `fields` and `references` stand together, on one side that is no list, and the other side is a list or
 -- optional; or on neither side, and both are lists. Actions stand beside them. Broken at the name of the
 -- pair's first field.
 abbrev pub pairs_have_a_holder : Tree → Places

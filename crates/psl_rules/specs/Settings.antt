@@ -10,14 +10,15 @@ use Rattle.psl_text.specs.declared.tree.Entry.{Entry}
 use Rattle.psl_text.specs.declared.tree.Entry.TheVariants as entry
 use Rattle.psl_text.specs.declared.tree.Block.{Block}
 use Rattle.psl_text.specs.declared.tree.Tree.{Tree}
-use Rattle.psl_rules.specs.Parts.{Spelling, Places, Setting, place, same_name, datasources, models, settings, text_in, repeats}
+use Rattle.psl_rules.specs.Parts.{Spelling, Places, Setting, place, same_name, datasources, models, settings, text_in}
+use Rattle.qe_text.specs.Lists.{repeats}
 
 -- the names of the blocks behind the first, or this place where there is no block
 abbrev pub one_of : ℕ → List Block → Places
 one_of end [] = end ∷ []
 one_of end (block ∷ others) = map (λ block. block.name.at) others
 
--- There is one datasource. Broken at the names of the others, or at the end of the text.
+-- V1. There is one datasource. Broken at the names of the others, or at the end of the text.
 abbrev pub one_datasource : Tree → Places
 one_datasource tree = one_of tree.length (datasources tree)
 
@@ -80,7 +81,7 @@ or_else (at ∷ places) others = at ∷ places
 abbrev pub broken_settings : Block → Places
 broken_settings block = or_else (wrong_settings block) (missing_settings block)
 
--- Each datasource has `provider` and `relationMode` with their one value, may have `url`, and has
+-- V2. Each datasource has `provider` and `relationMode` with their one value, may have `url`, and has
 -- nothing else and nothing twice. Broken at the settings that are wrong, and where none is, at the
 -- name of the block that lacks one.
 abbrev pub settings_are_given : Tree → Places
@@ -91,6 +92,6 @@ abbrev pub some_of : {A : Type 0} → ℕ → List A → Places
 some_of at [] = at ∷ []
 some_of at (item ∷ items) = []
 
--- There is a model. Broken at the end of the text.
+-- V3. There is a model. Broken at the end of the text.
 abbrev pub has_a_model : Tree → Places
 has_a_model tree = some_of tree.length (models tree)

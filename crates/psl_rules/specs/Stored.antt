@@ -1,5 +1,5 @@
 -- The names under which tables and columns are stored, and how many there may be.
-use Rattle.std.specs.Prelude.{ℕ, List, [], ◌∷◌, ◌++◌, Bool, true, false, map, filter, drop, Option, Some, None, option_and_then, unwrap_or, if◌then◌else◌, codes}
+use Rattle.std.specs.Prelude.{ℕ, List, [], ◌∷◌, ◌++◌, Bool, true, false, map, filter, drop, take, Option, Some, None, option_and_then, unwrap_or, if◌then◌else◌, codes}
 use Rattle.std.specs.List.{flat_map}
 use Rattle.std.specs.Ordering.{nat_cmp}
 use Rattle.std.specs.Cmp.Lexicographic.{slice_cmp}
@@ -11,7 +11,8 @@ use Rattle.psl_text.specs.declared.tree.Attribute.{Attribute}
 use Rattle.psl_text.specs.declared.tree.Block.{Block}
 use Rattle.psl_text.specs.declared.tree.Name.{Name}
 use Rattle.psl_text.specs.declared.tree.Tree.{Tree}
-use Rattle.psl_rules.specs.Parts.{Spelling, Places, ModelField, models, enums, fields, block_attributes, attribute_named, given_text, place, same_name, failing, repeats}
+use Rattle.psl_rules.specs.Parts.{Spelling, Places, ModelField, models, enums, fields, block_attributes, attribute_named, given_text, place, same_name, failing}
+use Rattle.qe_text.specs.Lists.{repeats}
 use Rattle.psl_rules.specs.Names.{is_column, field_names, member_names}
 use Rattle.psl_rules.specs.Relations.{Pair, pairs, pair_place, is_linked, relation_name}
 
@@ -72,17 +73,17 @@ alike names = repeats same_name (map lowered names)
 abbrev pub wrongly_stored : List Name → Places
 wrongly_stored names = failing (λ name. is_stored_name name.text) place names ++ map place (alike names)
 
--- The stored names of tables, and those of a table's columns, can be stored and differ. Broken at the
+-- V25. The stored names of tables, and those of a table's columns, can be stored and differ. Broken at the
 -- name of the later model or field, for a link table at that of its pair's first field.
 abbrev pub stored_names_are_distinct : Tree → Places
 stored_names_are_distinct tree = wrongly_stored (stored_tables tree) ++ flat_map (λ model. wrongly_stored (stored_columns tree model)) (models tree)
 
--- the places of the names behind so many
+-- the place of the first name behind so many
 abbrev pub beyond : ℕ → List Name → Places
-beyond most names = map place (drop most names)
+beyond most names = map place (take 1 (drop most names))
 
--- There are at most 256 tables, 128 fields in a model, and 1,000 members in an enum. Broken at the names
--- of those beyond.
+-- V26. There are at most 256 tables, 128 fields in a model, and 1,000 members in an enum. Broken at the first
+-- name beyond: of the tables in their order, of a model's fields, and of an enum's members.
 abbrev pub limits_hold : Tree → Places
 limits_hold tree =
     beyond 256 (stored_tables tree) ++ flat_map (λ model. beyond 128 (field_names model)) (models tree) ++ flat_map (λ enum. beyond 1000 (member_names enum)) (enums tree)

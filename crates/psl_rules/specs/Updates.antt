@@ -1,8 +1,9 @@
 -- Changes of ids that cascade from model to model.
 use Rattle.std.specs.Prelude.{◌≡◌, ◌⊎◌, ℕ, zero, suc, List, [], ◌∷◌, ◌++◌, Bool, true, false, ◌&&◌, not, length, map, filter, Option, Some, None, bytes_eq, codes}
 use Rattle.std.specs.List.{list_any}
+use Rattle.qe_text.specs.Lists.{In, is_among}
 use Rattle.psl_text.specs.declared.tree.Tree.{Tree}
-use Rattle.psl_rules.specs.Parts.{Spelling, Places, failing, is_among}
+use Rattle.psl_rules.specs.Parts.{Spelling, Places, failing}
 use Rattle.psl_rules.specs.Relations.{End, end_place, own_names, other_names, leads_to}
 use Rattle.psl_rules.specs.Foreign.{holders, action}
 
@@ -33,11 +34,6 @@ step_of arrow = record { from = arrow.field.type.text; to = arrow.model.name.tex
 abbrev pub steps : Tree → List Step
 steps tree = map step_of (arrows tree)
 
--- an item is one of the list
-unfoldable pub In : {A : Type 0} → A → List A → Type 0
-In item [] = ⊥
-In item (one ∷ items) = (item ≡ one) ⊎ In item items
-
 -- steps lead from the one model to the other, one behind another, or none where they are the same
 pub data Leads (all : List Step) : Spelling → Spelling → Type 0 where
   here : {model : Spelling} → Leads all model model
@@ -60,6 +56,6 @@ leads_out is_reached step = is_reached step.from && not (is_reached step.to)
 abbrev pub is_on_cycle : List Step → End → Bool
 is_on_cycle steps arrow = leads steps (step_of arrow).to (step_of arrow).from
 
--- No arrow lies on a cycle. Broken at the name of its field.
+-- V24. No arrow lies on a cycle. Broken at the name of its field.
 abbrev pub updates_form_no_cycle : Tree → Places
 updates_form_no_cycle tree = failing (λ arrow. not (is_on_cycle (steps tree) arrow)) end_place (arrows tree)

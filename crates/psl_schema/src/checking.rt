@@ -1,11 +1,11 @@
 //! What stands for an accepted tree, and why another has nothing that does.
 ghost use Rattle.std.specs.Prelude.{◌≡◌, ℕ, Err, IfOk, OnOk, IfErr};
 ghost use Rattle.psl_rules.specs.Accepted.{IsAccepted};
-ghost use Rattle.qe_schema.specs.SchemaOf.{schema_of};
+ghost use Rattle.psl_sound.specs.SchemaOf.{schema_of};
 ghost use Rattle.psl_schema.specs.declared.checking.SchemaFault.TheVariants as fault;
 ghost use Rattle.psl_schema.specs.Faults.{IsFaultOf};
 
-use psl_breach::first_breach;
+use crate::first_breach;
 use psl_columns::choices;
 use psl_parts::Types;
 use psl_text::Tree;

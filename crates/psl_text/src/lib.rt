@@ -10,8 +10,6 @@ mod parser;
 mod reader;
 mod scan;
 mod term;
-#[cfg(test)]
-mod tests;
 mod token;
 mod tree;
 

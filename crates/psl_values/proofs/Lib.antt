@@ -1,3 +1,4 @@
 pub mod Looked
 pub mod Places
+pub mod Shown
 pub mod Sided

@@ -9,7 +9,7 @@ use Rattle.std.proofs.lemmas.List.{map-append, append-nil, append_assoc}
 use Rattle.std.proofs.lemmas.List.Elements.{filter-append}
 use Rattle.psl_text.specs.declared.tree.Tree.{Tree}
 use Rattle.psl_rules.specs.Foreign.{holders}
-use Rattle.psl_rules.specs.Relations.{End, end_place, leads_to, relation_name, same_relation, is_partner}
+use Rattle.psl_rules.specs.Relations.{End, leads_to, relation_name, same_relation, is_partner}
 use Rattle.psl_parts.proofs.Firsts.{left_at}
 use Rattle.psl_relations.specs.Back.{Side, same_side, is_on, leads_back}
 use Rattle.psl_values.specs.Named.{placed, lie_on}
@@ -77,7 +77,7 @@ on_back back end holder target model name =
     ∙ ap (λ b. b && same_relation (relation_name holder) (relation_name end)) (swapped (leads_to end holder.model) (leads_to holder end.model))
 
 abbrev is_other : End → End → Bool
-is_other end other = not (end_place other == end_place end)
+is_other end other = not (other.number == end.number)
 
 abbrev first_among : (End → Bool) → List (ℕ × End) → Option ℕ
 first_among then all = option_map (λ one. one.0) (find (λ one. then one.1) all)
@@ -114,7 +114,7 @@ found_now test (one ∷ group) = by_test (test one.1.now) (found_now test group)
 
 pub partner_place : (back : Side) (end : End) (group : List (ℕ × Bor End)) (holders : List End) → back.0.now ≡ end.field.type.text → back.1.now ≡ end.model.name.text → option_copied back.2 ≡ relation_name end
     → map placed group ≡ lie_on back holders
-    → option_map (λ one. one.0) (find (λ one. not (end_place one.1.now == end_place end)) group) ≡ position (λ holder. is_partner holder end) holders
+    → option_map (λ one. one.0) (find (λ one. not (one.1.now.number == end.number)) group) ≡ position (λ holder. is_partner holder end) holders
 partner_place back end group holders target model name group_is =
     let same : is_on back ≡ (λ holder. leads_back holder end) = λ i holder. on_back back end holder target model name i in
     found_now (is_other end) group ∙ ap (λ all. option_map (λ (one : ℕ × End). one.0) (find (λ one. is_other end one.1) all)) group_is
@@ -124,7 +124,7 @@ partner_place back end group holders target model name group_is =
 -- ---- in what is found for a side, or nothing
 
 abbrev first_other : End → List (ℕ × Bor End) → Option ℕ
-first_other end group = option_map (λ one. one.0) (find (λ one. not (end_place one.1.now == end_place end)) group)
+first_other end group = option_map (λ one. one.0) (find (λ one. not (one.1.now.number == end.number)) group)
 
 pub partner_in : {G : Type 0} (items : G → List (ℕ × Bor End)) (got : Option (Bor G)) (group : Bor G) (under : Option G) (slice : List (ℕ × Bor End)) (result : Option ℕ) (back : Side) (end : End) (tree whole : Tree) → option_copied got ≡ under
     → got ≡ Some group → slice ≡ items group.now → result ≡ first_other end slice → map placed (option_map_or items under []) ≡ lie_on back (holders tree) → tree ≡ whole → back.0.now ≡ end.field.type.text

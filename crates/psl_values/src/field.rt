@@ -1,7 +1,8 @@
 //! What the fields of models stand for.
 ghost use Rattle.std.specs.Prelude.{◌≡◌, IfOk, map};
 ghost use Rattle.std.specs.Option.{option_or};
-ghost use Rattle.qe_schema.specs.SchemaOf as spec;
+ghost use Rattle.psl_sound.specs.SchemaOf as spec;
+ghost use Rattle.psl_values.specs.Shown.{shown_field};
 
 use crate::numbered::Numbered;
 use psl_columns::{as_number, column_names, is_column, number_among};
@@ -96,8 +97,25 @@ impl<'s, 'a> Numbered<'s, 'a> {
             let number = number_among(columns, field.name().text.as_str())?;
             Ok(Field::Scalar(number))
         } else {
-            self.relation_field(&End::of(model, field))
+            self.relation_field(&self.end(model, field))
         }
+    }
+
+    /// A field of a model with these columns, by its name, and what it stands for.
+    #[tactic(auto, using(crate::proofs::Shown::shown_is))]
+    fn shown_field(
+        &self,
+        alloc: Global,
+        columns: &[&str],
+        model: &'a Block,
+        field: ModelField<'a>,
+    ) -> Result<(Text, Field), Memory>
+        requires { map (λ name. name.now) columns.now ≡ spec.column_names self.now model.now }
+        ensures { IfOk result (λ shown. shown ≡ shown_field self.now model.now field.entry) }
+    {
+        let name = field.name().text.copy(alloc)?;
+        let stands_for = self.field_in(columns, model, field)?;
+        Ok((name, stands_for))
     }
 
     /// The fields of a model, in text order.
@@ -121,8 +139,7 @@ impl<'s, 'a> Numbered<'s, 'a> {
                     mark: *mark,
                     attributes: attributes.as_slice(),
                 };
-                let stands_for = self.field_in(columns.as_slice(), model, field)?;
-                fields.push((name.text.copy(alloc)?, stands_for))?;
+                fields.push(self.shown_field(alloc, columns.as_slice(), model, field)?)?;
             }
         }
         Ok(fields)

@@ -7,8 +7,6 @@ mod numbered;
 mod numbers;
 mod relation;
 mod table;
-#[cfg(test)]
-mod tests;
 
 pub use link::links;
 pub use relation::relations;

@@ -6,11 +6,11 @@ ghost use Rattle.std.specs.Cmp.Lexicographic.{slice_cmp};
 ghost use Rattle.psl_rules.specs.Parts.{ModelField};
 ghost use Rattle.psl_rules.specs.Relations.{is_linked};
 ghost use Rattle.qe_base.specs.declared.schema.Field.TheVariants as field;
-ghost use Rattle.qe_schema.specs.SchemaOf as spec;
+ghost use Rattle.psl_sound.specs.SchemaOf as spec;
 
 use crate::numbers::Models;
 use psl_columns::kind;
-use psl_fields::id_names;
+use psl_keys::id_names;
 use psl_parts::{Field as ModelField, Types, fields_named};
 use psl_relations::{End, Pair, ends, link_name, pairs};
 use psl_text::Block;

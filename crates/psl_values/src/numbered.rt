@@ -2,18 +2,19 @@
 ghost use Rattle.std.specs.Prelude.{◌≡◌, ◌==◌, IfOk, map, filter, not, position, option_map, option_copied};
 ghost use Rattle.std.specs.HashMap.{get};
 ghost use Rattle.std.specs.List.{find};
-ghost use Rattle.psl_rules.specs.Relations.{end_place, is_partner, relation_name};
+ghost use Rattle.psl_rules.specs.Relations.{is_partner, relation_name};
+ghost use Rattle.psl_rules.specs.Relations as rules;
 ghost use Rattle.psl_rules.specs.Foreign.{holders};
 ghost use Rattle.psl_rules.specs.Stored.{linked};
 ghost use Rattle.psl_relations.specs.Back.{Side, same_side};
 ghost use Rattle.psl_values.specs.Named as named;
-ghost use Rattle.qe_schema.specs.SchemaOf as spec;
+ghost use Rattle.psl_sound.specs.SchemaOf as spec;
 
 use crate::link::{side_a, side_b};
 use crate::numbers::Models;
-use psl_groups::{first_places, grouped};
-use psl_parts::Types;
-use psl_relations::{End, Pair};
+use psl_parts::{Field, Types, first_places, grouped};
+use psl_relations::{End, Pair, holders};
+use psl_text::Block;
 use qe_base::TableId;
 use qe_text::Memory;
 use std::alloc::Global;
@@ -26,10 +27,12 @@ type Named<'a> = (&'a str, &'a str);
 /// The model that an end stands in, the one that it leads to, and the name of its relation.
 type Side<'a> = (&'a str, &'a str, Option<&'a str>);
 
-/// A tree, with the places of its ends that hold foreign keys and of its pairs of lists, to number them.
+/// A tree, with the places of its ends, of those that hold foreign keys and of its pairs of lists, to
+/// number them.
 #[derive(Drop)]
 pub struct Numbered<'s, 'a> {
     models: &'s Models<'s, 'a>,
+    numbers: HashMap<Named<'a>, usize>,
     places: HashMap<Named<'a>, usize>,
     /// The ends that hold foreign keys, by their sides.
     sides: HashMap<Side<'a>, Vec<(usize, &'s End<'a>)>>,
@@ -42,11 +45,12 @@ impl<'s, 'a> Model for Numbered<'s, 'a> {
     ghost use Rattle.std.specs.Option.{option_map_or};
     ghost use Rattle.std.specs.HashMap.{get};
     ghost use Rattle.psl_text.specs.declared.tree.Tree.{Tree};
+    ghost use Rattle.psl_rules.specs.Relations.{ends};
     ghost use Rattle.psl_rules.specs.Foreign.{holders};
     ghost use Rattle.psl_rules.specs.Stored.{linked};
     ghost use Rattle.psl_relations.specs.Back.{Side, same_side};
     ghost use Rattle.psl_values.specs.Named.{GivesPlaces, lie_on, placed, same_named};
-    ghost use Rattle.qe_schema.specs.SchemaOf.{side_a, side_b};
+    ghost use Rattle.psl_sound.specs.SchemaOf.{side_a, side_b};
     ghost use Rattle.psl_text.specs.contracts.tree.Term as term;
     ghost use Rattle.std.specs.Coded.{codes};
 
@@ -56,17 +60,41 @@ impl<'s, 'a> Model for Numbered<'s, 'a> {
 
     ghost view = { λ s. s.models.now };
 
-    ghost invariant = { λ s. GivesPlaces (get same_named s.places) (holders s.models.now) × ((side : Side) → map placed (option_map_or (λ group. group.items) (get same_side s.sides side) []) ≡ lie_on side (holders s.models.now)) × GivesPlaces (get same_named s.places_a) (map side_a (linked s.models.now)) × GivesPlaces (get same_named s.places_b) (map side_b (linked s.models.now)) };
+    ghost invariant = { λ s. GivesPlaces (get same_named s.numbers) (ends s.models.now) × GivesPlaces (get same_named s.places) (holders s.models.now) × ((side : Side) → map placed (option_map_or (λ group. group.items) (get same_side s.sides side) []) ≡ lie_on side (holders s.models.now)) × GivesPlaces (get same_named s.places_a) (map side_a (linked s.models.now)) × GivesPlaces (get same_named s.places_b) (map side_b (linked s.models.now)) };
+}
+
+fn names_of<'a>(model: &'a Block, field: &Field<'a>) -> Named<'a>
+    ensures model { result.0.now ≡ model.now.name.text }
+    ensures field { result.1.now ≡ field.now.name.text }
+{
+    (model.name.text.as_str(), field.name().text.as_str())
 }
 
 fn names<'a>(end: &End<'a>) -> Named<'a>
     ensures model { result.0.now ≡ end.now.model.name.text }
     ensures field { result.1.now ≡ end.now.field.name.text }
 {
-    (
-        end.model().name.text.as_str(),
-        end.field().name().text.as_str(),
-    )
+    names_of(end.model(), end.field())
+}
+
+/// The names of all these ends.
+fn names_of_all<'a>(alloc: Global, ends: &[End<'a>]) -> Result<Vec<Named<'a>>, Memory>
+    ensures { IfOk result (λ names. map named.texts_of names.items ≡ map named.end_names ends.now) }
+{
+    let mut all = Vec::new(alloc);
+    for end in ends {
+        all.push(names(end))?;
+    }
+    Ok(all)
+}
+
+/// The first place of each of all these ends, by its names.
+fn all_places<'a>(alloc: Global, ends: &[End<'a>]) -> Result<HashMap<Named<'a>, usize>, Memory>
+    ensures { IfOk result (λ places. named.GivesPlaces (get named.same_named places) ends.now) }
+{
+    let names = names_of_all(alloc, ends)?;
+    let places = first_places(alloc, names.as_slice())?;
+    Ok(places)
 }
 
 /// The names of these ends.
@@ -153,10 +181,10 @@ fn all_sides_b<'e, 'a>(alloc: Global, lists: &[&Pair<'e, 'a>]) -> Result<Vec<&'e
 
 /// The place of the first of these ends that isn't the end itself.
 fn first_other(group: &[(usize, &End)], end: &End) -> Option<usize>
-    ensures { result ≡ option_map (λ one. one.0) (find (λ one. not (end_place one.1.now == end_place end.now)) group.now) }
+    ensures { result ≡ option_map (λ one. one.0) (find (λ one. not (one.1.now.number == end.now.number)) group.now) }
 {
     for (number, other) in group {
-        if other.place() != end.place() {
+        if other.is_other(end) {
             return Some(*number);
         }
     }
@@ -164,26 +192,30 @@ fn first_other(group: &[(usize, &End)], end: &End) -> Option<usize>
 }
 
 impl<'s, 'a> Numbered<'s, 'a> {
-    /// A tree, with all its ends that hold foreign keys and all its pairs of lists.
+    /// A tree, with all its ends and all its pairs of lists.
     pub fn of(
         alloc: Global,
         models: &'s Models<'s, 'a>,
-        held: &[&'s End<'a>],
+        ends: &'s [End<'a>],
         lists: &[&Pair<'s, 'a>],
     ) -> Result<Numbered<'s, 'a>, Memory>
-        requires held { map (λ end. end.now) held.now ≡ holders models.now }
+        requires ends { ends.now ≡ rules.ends models.now }
         requires lists { map (λ pair. pair.now) lists.now ≡ linked models.now }
         ensures { IfOk result (λ numbered. numbered ≡ models.now) }
     {
+        let held = holders(alloc, ends)?;
+        let held = held.as_slice();
         let sided = with_sides(alloc, held)?;
         let all_a = all_sides_a(alloc, lists)?;
         let all_b = all_sides_b(alloc, lists)?;
+        let numbers = all_places(alloc, ends)?;
         let places = end_places(alloc, held)?;
         let sides = grouped(alloc, sided.as_slice())?;
         let places_a = end_places(alloc, all_a.as_slice())?;
         let places_b = end_places(alloc, all_b.as_slice())?;
         Ok(Numbered {
             models,
+            numbers,
             places,
             sides,
             places_a,
@@ -202,6 +234,21 @@ impl<'s, 'a> Numbered<'s, 'a> {
         ensures { IfOk result (λ table. table ≡ record { 0 = spec.link_number self.now number }) }
     {
         self.models.link(number)
+    }
+
+    /// The number of a field among the ends.
+    fn number(&self, model: &'a Block, field: &Field<'a>) -> usize
+        ensures { result ≡ spec.end_number self.now model.now field.now }
+    {
+        let names = names_of(model, field);
+        self.numbers.get(&names).copied().unwrap_or(0)
+    }
+
+    /// The end that a field of a model is.
+    pub fn end(&self, model: &'a Block, field: Field<'a>) -> End<'a>
+        ensures { result ≡ spec.end_of self.now model.now field.entry }
+    {
+        End::of(self.number(model, &field), model, field)
     }
 
     /// The place of an end among those that hold foreign keys.

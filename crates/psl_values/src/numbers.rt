@@ -1,11 +1,10 @@
 //! The numbers of tables.
 ghost use Rattle.std.specs.Prelude.{◌≡◌, ◌+◌, IfOk, map, length, position, bytes_eq};
 ghost use Rattle.psl_rules.specs.Parts.{models};
-ghost use Rattle.qe_schema.specs.SchemaOf as spec;
+ghost use Rattle.psl_sound.specs.SchemaOf as spec;
 
 use psl_columns::as_number;
-use psl_groups::first_places;
-use psl_parts::{Types, blocks_of};
+use psl_parts::{Types, blocks_of, first_places};
 use psl_text::{Block, Word};
 use qe_base::TableId;
 use qe_text::{Memory, Text};
@@ -28,7 +27,7 @@ impl<'t, 'a> Model for Models<'t, 'a> {
     ghost use Rattle.psl_text.specs.declared.tree.Tree.{Tree};
     ghost use Rattle.psl_rules.specs.Parts.{Spelling, models};
     ghost use Rattle.psl_relations.specs.Back.{same_text};
-    ghost use Rattle.qe_schema.specs.SchemaOf.{block_name};
+    ghost use Rattle.psl_sound.specs.SchemaOf.{block_name};
     ghost use Rattle.psl_text.specs.contracts.tree.Term as term;
     ghost use Rattle.std.specs.Coded.{codes};
 

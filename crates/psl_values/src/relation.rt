@@ -3,7 +3,7 @@ ghost use Rattle.std.specs.Prelude.{◌≡◌, ◌++◌, IfOk, OnOk, map, option
 ghost use Rattle.std.specs.List.{flat_map};
 ghost use Rattle.qe_base.specs.declared.schema.Action.TheVariants as action;
 ghost use Rattle.psl_rules.specs.Relations.{partners_among};
-ghost use Rattle.qe_schema.specs.SchemaOf as spec;
+ghost use Rattle.psl_sound.specs.SchemaOf as spec;
 
 use crate::numbers::Models;
 use psl_columns::column_numbers;

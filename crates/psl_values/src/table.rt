@@ -1,13 +1,13 @@
 //! Tables: the models, then the link tables.
 ghost use Rattle.std.specs.Prelude.{◌≡◌, ◌++◌, IfOk, OnOk, map};
-ghost use Rattle.qe_schema.specs.SchemaOf as spec;
+ghost use Rattle.psl_sound.specs.SchemaOf as spec;
 
 use crate::link::{link_table, linked};
 use crate::numbered::Numbered;
 use crate::numbers::Models;
 use psl_columns::{columns, indexes, keys};
 use psl_parts::{Types, blocks_of};
-use psl_relations::{Pair, ends, holders, mapped_model, pairs};
+use psl_relations::{Pair, ends, mapped_model, pairs};
 use psl_text::{Block, Word};
 use qe_base::Table;
 use qe_text::{Items, Memory, Text};
@@ -64,10 +64,9 @@ pub fn tables(alloc: Global, types: &Types) -> Result<Items<Table>, Memory>
 {
     let models = Models::of(alloc, types)?;
     let ends = ends(alloc, types)?;
-    let held = holders(alloc, ends.as_slice())?;
     let pairs = pairs(alloc, ends.as_slice())?;
     let linked = linked(alloc, pairs.as_slice())?;
-    let numbered = Numbered::of(alloc, &models, held.as_slice(), linked.as_slice())?;
+    let numbered = Numbered::of(alloc, &models, ends.as_slice(), linked.as_slice())?;
     let blocks = blocks_of(alloc, types.tree(), Word::Model)?;
     let mut tables = Items::new(alloc);
     push_models(alloc, &mut tables, &numbered, blocks.as_slice())?;

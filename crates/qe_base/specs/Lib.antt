@@ -4,5 +4,6 @@ pub mod MemHost
 pub mod MemSink
 pub mod MemSource
 pub mod Outside
+pub mod Schemas
 pub mod ValueOrder
 pub mod Values

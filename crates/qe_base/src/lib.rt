@@ -3,15 +3,15 @@
 #![tactic(auto)]
 
 mod answer;
+mod event;
 mod outside;
 mod query;
 mod schema;
-#[cfg(test)]
-mod tests;
 mod value;
 mod write;
 
 pub use answer::{Answer, OpFault, Outside, Rule, Why};
+pub use event::{Entry, Event, Reply, What};
 pub use outside::{Failed, FetchFault, Host, HostCall, MemHost, MemSink, MemSource, Sink, Source};
 pub use qe_text::{Boxed, Bytes, Items, Memory, Text};
 pub use query::{Child, Filter, Like, Look, OrderBy, OrderEnd, Page, Pick, Quant, Test, Unique};

@@ -2,12 +2,12 @@
 use Rattle.std.proofs.Common.{◌≡◌, ℕ, List, Option, Some, None, true, false, refl, sym, ap, ◌∙◌, subst, true≢false, inl, inr, ◌⊎◌, arith}
 use Rattle.std.specs.Prelude.{IsSomeAnd, is_some, unwrap_or, codes}
 use Rattle.qe_base.specs.Outside.{Files}
-use Rattle.qe_schema.specs.Schemas.{Schema}
+use Rattle.qe_base.specs.Schemas.{Schema}
 use Rattle.psl_text.specs.declared.fault.TextFault.TheVariants as fault
 use Rattle.psl_text.proofs.BlockRules.{one_tree_only}
 use Rattle.psl_text.proofs.FaultTexts.{tree_or_fault_only}
 use Rattle.psl_rules.specs.Accepted.{first_breach}
-use Rattle.qe_schema.specs.SchemaOf.{schema_of}
+use Rattle.psl_sound.specs.SchemaOf.{schema_of}
 use Rattle.qe_view.specs.Attached.{Kept, HasText, KeepsOther}
 use Rattle.qe_cli.specs.declared.End.{End}
 use Rattle.qe_cli.specs.declared.End.TheVariants as end

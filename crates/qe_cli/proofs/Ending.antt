@@ -5,12 +5,12 @@ use Rattle.std.proofs.Math.Seq.{take-length}
 use Rattle.qe_base.specs.Causes.{Rose}
 use Rattle.qe_base.specs.Outside.{Files, file_named}
 use Rattle.qe_base.specs.declared.outside.Failed.{Failed}
-use Rattle.qe_schema.specs.Schemas.{Schema}
-use Rattle.qe_exchange.specs.Lines.{lines_of}
-use Rattle.qe_exchange.specs.Exchange.{Exchanges, Outcome, told, entered, entered_of, history_of}
-use Rattle.qe_history.specs.declared.Entry.{Entry}
+use Rattle.qe_base.specs.Schemas.{Schema}
+use Rattle.qe_history.specs.Lines.{lines_of}
+use Rattle.qe_history.specs.Exchange.{Exchanges, LineOutcome, told, entered, entered_of, history_of}
+use Rattle.qe_base.specs.declared.event.Entry.{Entry}
 use Rattle.qe_history.specs.State.{State}
-use Rattle.qe_history.specs.History.{Leads, Greets, HaveGreeted}
+use Rattle.qe_history.specs.History.{StepsThrough, Greets, HaveGreeted}
 use Rattle.qe_lines.specs.Run.{Goes, Runs, OutcomesLead}
 use Rattle.qe_cli.specs.declared.End.{End}
 use Rattle.qe_cli.specs.declared.End.TheVariants as end
@@ -27,7 +27,8 @@ use Rattle.qe_cli.specs.declared.words.Command.{Command}
 use Rattle.qe_cli.specs.declared.words.Command.TheVariants as command
 use Rattle.qe_cli.specs.Asked.{command_of, Asks, ReadsAlone}
 use Rattle.qe_cli.specs.Connected.{Connected, StandsFor, first_state}
-use Rattle.qe_cli.specs.Command.{line_of, has_made_line, status_of, end_from, StaysUnopened, IsLaidOut, RunComes, SchemaComes, WithSchema, Comes, Prints, FileHolds, NamesSchema, Untouched, AnswersAll, SaysOk, SaysLayout, TextComes, LayoutComes, laid_out, SaysWhy}
+use Rattle.qe_cli.specs.Command.{line_of, has_made_line, status_of, end_from, StaysUnopened, IsLaidOut, RunComes, SchemaComes, WithSchema, Comes, Prints, FileHolds, NamesSchema, Untouched, AnswersAll, SaysOk, SaysLayout, TextComes, LayoutComes, laid_out, SaysWhy, IsAttachedFor}
+use Rattle.qe_view.specs.Layouts.{Layout, layout_of}
 use Rattle.qe_cli.specs.Refused.{HasSchema, Refuses, Unread, refusal_line}
 use Rattle.qe_lines.specs.Ends.{EndsRun, Finishes, Halts, longest_input}
 use Rattle.qe_lines.specs.Kept.{Appends, AppendsPart}
@@ -152,6 +153,27 @@ pub obeyed : (e : End) (given back : Connected) (apart : Type 0) (words : List (
 obeyed e given back apart words files name text wanted schema before left taken now asked bytes has c =
     with_schema e given back apart words files before left taken now wanted schema c (wanted, schema, (name, asked, file_holds max_length files name text (λ t. HasSchema t schema) (schema_alike schema) has bytes), c)
 
+-- a run was carried out over the schema of the text that was fetched, and left a connector attached for it
+pub opened_for : (words : List (List ℕ)) (files : Option Files) (name text : List ℕ) (wanted : Command) (schema : Schema) (attached : Option Layout) → command_of words ≡ Some (wanted, name) → IfSome files (λ all. IsSomeAnd (file_named name all) (λ content. text ≡ take (max_length + 1) content))
+    → HasSchema text schema → Asks command.Run words → (wanted ≡ command.Run → attached ≡ Some (layout_of schema)) → IsAttachedFor words files attached
+opened_for words files name text wanted schema attached asked bytes has asks opened =
+    let run : wanted ≡ command.Run = ap (λ (o : Option (Command × List ℕ)). (unwrap_or o (wanted, name)).0) (sym asked ∙ asks.1) in
+    (schema, (name, subst (λ w. command_of words ≡ Some (w, name)) run asked, file_holds max_length files name text (λ t. HasSchema t schema) (schema_alike schema) has bytes), opened run)
+
+-- where the status is that of what was done, the line of its own changed nothing
+pub was_done : (status : ℕ) (e first : End) → status ≡ status_of e → (e ≡ first) ⊎ ((has_made_line first ≡ true) × (e ≡ end.Memory)) → status ≡ 0 → first ≡ end.Done
+was_done status e first is (inr other) nought = absurd (omega (arith, is ∙ ap status_of other.1, nought))
+was_done status end.Done first is (inl same) nought = sym same
+was_done status end.Usage first is (inl same) nought = absurd (omega (arith, is, nought))
+was_done status (end.Refused refused) first is (inl same) nought = absurd (omega (arith, is, nought))
+was_done status end.FetchFault first is (inl same) nought = absurd (omega (arith, is, nought))
+was_done status end.ReadFault first is (inl same) nought = absurd (omega (arith, is, nought))
+was_done status end.WriteFault first is (inl same) nought = absurd (omega (arith, is, nought))
+was_done status end.Memory first is (inl same) nought = absurd (omega (arith, is, nought))
+was_done status (end.ConnectorFault before after) first is (inl same) nought = absurd (omega (arith, is, nought))
+was_done status end.LayoutDiffers first is (inl same) nought = absurd (omega (arith, is, nought))
+was_done status end.LongInput first is (inl same) nought = absurd (omega (arith, is, nought))
+
 -- the text that was fetched gave no schema
 pub unread : (e : End) (given back : Connected) (apart : Type 0) (words : List (List ℕ)) (files : Option Files) (name text : List ℕ) (wanted : Command) (before left taken now : Option (List ℕ)) → command_of words ≡ Some (wanted, name) → IfSome files (λ all. IsSomeAnd (file_named name all) (λ content. text ≡ take (max_length + 1) content))
     → Unread e text → Untouched before left taken now → apart → Comes e given back apart words files before left taken now
@@ -196,16 +218,16 @@ says_why status end.LongInput given back apart words files before left taken mid
 
 -- ---- an exchange from the runs of lines
 
-done_leads : (old new : State) (place : ℕ) (outcomes : List Outcome) → OutcomesLead old outcomes new → Leads old place (flat_map entered_of outcomes) new
+done_leads : (old new : State) (place : ℕ) (outcomes : List LineOutcome) → OutcomesLead old outcomes new → StepsThrough old place (flat_map entered_of outcomes) new
 done_leads old new place [] leads = leads
-done_leads old new place (told text ∷ outcomes) leads = subst (λ s. Leads s place (flat_map entered_of outcomes) new) leads.1 (done_leads leads.0 new place outcomes leads.2)
+done_leads old new place (told text ∷ outcomes) leads = subst (λ s. StepsThrough s place (flat_map entered_of outcomes) new) leads.1 (done_leads leads.0 new place outcomes leads.2)
 done_leads old new place (entered op reply ∷ outcomes) leads = (leads.0, leads.1 place, done_leads leads.0 new (place + 1) outcomes leads.2)
 
-history_leads : (old new : State) (outcomes : List Outcome) → OutcomesLead old outcomes new → Leads old 0 (history_of outcomes) new
+history_leads : (old new : State) (outcomes : List LineOutcome) → OutcomesLead old outcomes new → StepsThrough old 0 (history_of outcomes) new
 history_leads old new outcomes leads = (old, (refl, refl), done_leads old new 1 outcomes leads)
 
 -- each entry is of caller 0
-all_first : (outcomes : List Outcome) (place : ℕ) → IfSome (slice_get (flat_map entered_of outcomes) place) (λ entry. entry.caller ≡ 0)
+all_first : (outcomes : List LineOutcome) (place : ℕ) → IfSome (slice_get (flat_map entered_of outcomes) place) (λ entry. entry.caller ≡ 0)
 all_first [] place = tt
 all_first (told text ∷ outcomes) place = all_first outcomes place
 all_first (entered op reply ∷ outcomes) zero = refl
@@ -216,7 +238,7 @@ greeted_by history None place is first = tt
 greeted_by history (Some entry) place is first =
     (omega (arith, is), subst (λ n. IsSomeAnd (slice_get history n) (λ first. (first.caller ≡ n) × Greets first.event.what)) (sym is) first)
 
-history_greeted : (outcomes : List Outcome) → HaveGreeted (history_of outcomes)
+history_greeted : (outcomes : List LineOutcome) → HaveGreeted (history_of outcomes)
 history_greeted outcomes zero = (omega arith, (refl, tt))
 history_greeted outcomes (suc place) = greeted_by (history_of outcomes) (slice_get (flat_map entered_of outcomes) place) (suc place) (all_first outcomes place) (refl, tt)
 

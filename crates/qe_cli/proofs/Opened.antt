@@ -2,7 +2,7 @@
 use Rattle.std.proofs.Common.{◌≡◌, ℕ, ◌≤◌, List, Bool, true, false, not, refl, sym, subst, ◌∙◌, true≢false}
 use Rattle.std.specs.Prelude.{Option, option_map, IfSome}
 use Rattle.qe_base.specs.Causes.{HasCause, Rose}
-use Rattle.qe_schema.specs.Schemas.{Schema}
+use Rattle.qe_base.specs.Schemas.{Schema}
 use Rattle.qe_view.specs.Attached.{Kept, kept_tables, HasText, KeepsOther}
 use Rattle.qe_view.specs.Layouts.{Layout, layout_of}
 use Rattle.qe_view.specs.LayoutText.{layout_text}

@@ -1,13 +1,13 @@
 -- What a command does: how it ends, and what it has written.
 use Rattle.std.specs.Prelude.{◌≡◌, ◌⊎◌, ℕ, ◌<◌, ◌≤◌, List, [], ◌++◌, length, take, Bool, true, false, Option, Some, None, IfSome, IsSomeAnd, codes, decimal}
 use Rattle.qe_base.specs.Outside.{Files, file_named}
-use Rattle.qe_schema.specs.Schemas.{Schema}
+use Rattle.qe_base.specs.Schemas.{Schema}
 use Rattle.qe_base.specs.Causes.{Rose}
-use Rattle.qe_exchange.specs.Exchange.{Exchanges}
-use Rattle.qe_exchange.specs.Lines.{lines_of}
+use Rattle.qe_history.specs.Exchange.{Exchanges}
+use Rattle.qe_history.specs.Lines.{lines_of}
 use Rattle.qe_history.specs.State.{State}
 use Rattle.qe_view.specs.Attached.{HasText, KeepsOther}
-use Rattle.qe_view.specs.Layouts.{layout_of}
+use Rattle.qe_view.specs.Layouts.{Layout, layout_of}
 use Rattle.qe_view.specs.LayoutText.{layout_text}
 use Rattle.qe_cli.specs.declared.End.{End}
 use Rattle.qe_cli.specs.declared.End.TheVariants as end
@@ -207,6 +207,10 @@ AnswersAll given back words files before left taken now =
     (schema : Schema) × NamesSchema command.Run words files schema × IsLaidOut given schema
     × IfSome left (λ unread. IfSome now (λ written. IsSomeAnd before (λ input. IsSomeAnd taken (λ old.
     (unread ≡ []) × (length input ≤ longest_input) × ((bytes : List ℕ) × (after : State) × (written ≡ old ++ bytes) × Exchanges schema (first_state given schema) (lines_of input) bytes after × StandsFor schema back after)))))
+
+-- The words are those of a run over a schema, and a connector is attached with its layout.
+abbrev pub IsAttachedFor : List (List ℕ) → Option Files → Option Layout → Type 0
+IsAttachedFor words files attached = (schema : Schema) × NamesSchema command.Run words files schema × (attached ≡ Some (layout_of schema))
 
 -- The connector failed when it was to be attached, or keeps what is laid out for another schema than the one
 -- that the words name.

@@ -1,10 +1,10 @@
 -- What contracts see of a connector that is handed in and back.
 use Rattle.std.specs.Prelude.{◌≡◌, ℕ, ◌≤◌, Bool, not, true, false, Option, option_map, IfSome}
-use Rattle.qe_schema.specs.Schemas.{Schema}
-use Rattle.qe_tables.specs.Tables.{Tables}
-use Rattle.qe_changes.specs.Calls.{Calls}
+use Rattle.qe_base.specs.Schemas.{Schema}
+use Rattle.qe_schema.specs.Tables.{Tables}
+use Rattle.qe_view.specs.Calls.{CallCounts}
 use Rattle.qe_history.specs.State.{State, opening}
-use Rattle.qe_desk.specs.Stands.{Stands}
+use Rattle.qe_desk.specs.Stands.{StandsForState}
 use Rattle.qe_view.specs.Attached.{Kept, kept_tables}
 
 -- What it keeps before it is attached and the tables after that, where it tells; how often it failed, how often
@@ -15,9 +15,9 @@ pub record Connected : Type 0 where
   pub faults : ℕ
   pub misfits : ℕ
   pub may_fail : Bool
-  pub calls : Calls
+  pub calls : CallCounts
 
-abbrev pub connected : Option (Option Kept) → Option Tables → ℕ → ℕ → Bool → Calls → Connected
+abbrev pub connected : Option (Option Kept) → Option Tables → ℕ → ℕ → Bool → CallCounts → Connected
 connected keeps told faults misfits may_fail calls = record { keeps = keeps; told = told; faults = faults; misfits = misfits; may_fail = may_fail; calls = calls }
 
 -- the state in which a run over a connector begins
@@ -26,7 +26,7 @@ first_state given schema = opening schema (option_map kept_tables given.keeps) g
 
 -- a connector stands for a state of this schema
 abbrev pub StandsFor : Schema → Connected → State → Type 0
-StandsFor schema connector state = Stands schema connector.told connector.faults connector.may_fail state
+StandsFor schema connector state = StandsForState schema connector.told connector.faults connector.may_fail state
 
 -- It isn't attached: it keeps what it kept, and got no other call.
 pub record IsUnopened (given back : Connected) : Type 0 where

@@ -1,13 +1,13 @@
 -- The schema of a text, and why a text is refused.
 use Rattle.std.specs.Prelude.{◌≡◌, ℕ, List, ◌++◌, Some, codes, decimal}
-use Rattle.qe_schema.specs.Schemas.{Schema}
+use Rattle.qe_base.specs.Schemas.{Schema}
 use Rattle.psl_text.specs.declared.fault.TextFault.{TextFault}
 use Rattle.psl_text.specs.declared.fault.TextFault.TheVariants as fault
 use Rattle.psl_text.specs.declared.tree.Tree.{Tree}
 use Rattle.psl_text.specs.Derives.{HasTree}
 use Rattle.psl_text.specs.Faults.{HasFault}
 use Rattle.psl_rules.specs.Accepted.{first_breach, IsAccepted}
-use Rattle.qe_schema.specs.SchemaOf.{schema_of}
+use Rattle.psl_sound.specs.SchemaOf.{schema_of}
 use Rattle.qe_cli.specs.declared.End.{End}
 use Rattle.qe_cli.specs.declared.End.TheVariants as end
 use Rattle.qe_cli.specs.declared.refusal.Refusal.{Refusal}

@@ -1,7 +1,7 @@
 //! The commands of the engine.
 ghost use Rattle.std.specs.Prelude.{◌≡◌, ◌↔◌, ◌⊎◌, ◌<◌, ◌≤◌, ℕ, List, ◌∷◌, [], length, map, string_bytes, Option, Some, None, IfSome, IsSomeAnd, MatchOption, OnOk, IfOk, IfErr, true, false};
 ghost use Rattle.qe_base.specs.Causes.{HasCause, Rose};
-ghost use Rattle.qe_schema.specs.Schemas.{Schema};
+ghost use Rattle.qe_base.specs.Schemas.{Schema};
 ghost use Rattle.qe_lines.specs.Ends.{EndsRun, longest_input};
 ghost use Rattle.qe_lines.specs.Run.{Goes};
 ghost use Rattle.qe_view.specs.Attached.{FitLayout, HasText};
@@ -10,7 +10,7 @@ ghost use Rattle.qe_cli.specs.declared.End.{End};
 ghost use Rattle.qe_cli.specs.declared.refusal.Refusal.{Refusal};
 ghost use Rattle.qe_cli.specs.declared.words.Command.{Command};
 ghost use Rattle.qe_cli.specs.Asked.{command_of, Asks, ReadsAlone};
-ghost use Rattle.qe_cli.specs.Command.{fault_line, line_of, has_made_line, status_of, end_from, StaysUnopened, RunComes, TextComes, LayoutComes, laid_out, SchemaComes, IsLaidOut, Comes, Prints, HasSchemaFile, Offers, AnswersAll, SaysOk, SaysLayout, SaysWhy, IsShut};
+ghost use Rattle.qe_cli.specs.Command.{fault_line, line_of, has_made_line, status_of, end_from, StaysUnopened, RunComes, TextComes, LayoutComes, laid_out, SchemaComes, IsLaidOut, Comes, Prints, HasSchemaFile, Offers, AnswersAll, SaysOk, SaysLayout, SaysWhy, IsShut, IsAttachedFor};
 ghost use Rattle.qe_cli.specs.Connected.{connected, first_state, StandsFor};
 ghost use Rattle.qe_cli.specs.Refused.{HasSchema, Refuses, Unread};
 
@@ -19,12 +19,11 @@ use crate::{End, Refusal};
 use psl_schema::{SchemaFault, check};
 use psl_text::{TextFault, read_tree};
 use qe_base::{FetchFault, Host};
-use qe_changes::AttachFault;
 use qe_desk::ConnectorDesk;
 use qe_lines::{LinesEnd, take_input, write_all};
 use qe_schema::Schema;
 use qe_text::{Memory, Text};
-use qe_view::{Connector, Layout};
+use qe_view::{AttachFault, Connector, Layout};
 use std::alloc::{AllocError, Global};
 
 /// How many bytes a schema's text may have.
@@ -166,6 +165,7 @@ fn run_lines<C: Connector, H: Host>(
     requires attached { C.attached connector ≡ Some (layout_of schema.now) }
     requires fits { FitLayout (C.attached connector) (C.told connector) }
     ensures ends { Goes (StandsFor schema.now (connected (C.keeps connector) (C.told connector) (C.fault_count connector) (C.misfit_count connector) (C.may_fail connector) (C.calls connector))) (StandsFor schema.now (connected (C.keeps result.1) (C.told result.1) (C.fault_count result.1) (C.misfit_count result.1) (C.may_fail result.1) (C.calls result.1))) (EndsRun result.0 schema.now (H.left host.old) (H.left host.new) (H.taken host.old) (H.taken host.new)) }
+    ensures opened { C.attached result.1 ≡ Some (layout_of schema.now) }
     ensures read_cause { HasCause (H.read_may_fail host.old) (H.read_faults host.old) (H.read_faults host.new) (result.0 ≡ LinesEnd.ReadFault) }
     ensures write_cause { HasCause (H.write_may_fail host.old) (H.write_faults host.old) (H.write_faults host.new) (result.0 ≡ LinesEnd.WriteFault) }
     ensures sure { (H.read_may_fail host.old ≡ false → H.read_may_fail host.new ≡ false) × (H.write_may_fail host.old ≡ false → H.write_may_fail host.new ≡ false) }
@@ -186,6 +186,7 @@ fn run_schema<C: Connector, H: Host>(
 ) -> (End, C)
     requires { C.attached connector ≡ None }
     ensures ends { RunComes result.0 (connected (C.keeps connector) (C.told connector) (C.fault_count connector) (C.misfit_count connector) (C.may_fail connector) (C.calls connector)) (connected (C.keeps result.1) (C.told result.1) (C.fault_count result.1) (C.misfit_count result.1) (C.may_fail result.1) (C.calls result.1)) schema.now (H.left host.old) (H.left host.new) (H.taken host.old) (H.taken host.new) }
+    ensures opened { result.0 ≡ End.Done → C.attached result.1 ≡ Some (layout_of schema.now) }
     ensures read_cause { HasCause (H.read_may_fail host.old) (H.read_faults host.old) (H.read_faults host.new) (result.0 ≡ End.ReadFault) }
     ensures write_cause { HasCause (H.write_may_fail host.old) (H.write_faults host.old) (H.write_faults host.new) (result.0 ≡ End.WriteFault) }
     ensures sure { (H.read_may_fail host.old ≡ false → H.read_may_fail host.new ≡ false) × (H.write_may_fail host.old ≡ false → H.write_may_fail host.new ≡ false) }
@@ -252,6 +253,7 @@ fn obey<C: Connector, H: Host>(
 ) -> (End, C)
     requires { C.attached connector ≡ None }
     ensures ends { SchemaComes command result.0 (connected (C.keeps connector) (C.told connector) (C.fault_count connector) (C.misfit_count connector) (C.may_fail connector) (C.calls connector)) (connected (C.keeps result.1) (C.told result.1) (C.fault_count result.1) (C.misfit_count result.1) (C.may_fail result.1) (C.calls result.1)) (result.1 ≡ connector) schema.now (H.left host.old) (H.left host.new) (H.taken host.old) (H.taken host.new) }
+    ensures opened { command ≡ Command.Run → result.0 ≡ End.Done → C.attached result.1 ≡ Some (layout_of schema.now) }
     ensures still { (command ≡ Command.Run → ⊥) → (H.left host.new ≡ H.left host.old) × (H.read_faults host.new ≡ H.read_faults host.old) }
     ensures read_cause { HasCause (H.read_may_fail host.old) (H.read_faults host.old) (H.read_faults host.new) (result.0 ≡ End.ReadFault) }
     ensures write_cause { HasCause (H.write_may_fail host.old) (H.write_faults host.old) (H.write_faults host.new) (result.0 ≡ End.WriteFault) }
@@ -275,6 +277,7 @@ fn carry_out<C: Connector, H: Host>(
 ) -> (End, C)
     requires { C.attached connector ≡ None }
     ensures comes { Comes result.0 (connected (C.keeps connector) (C.told connector) (C.fault_count connector) (C.misfit_count connector) (C.may_fail connector) (C.calls connector)) (connected (C.keeps result.1) (C.told result.1) (C.fault_count result.1) (C.misfit_count result.1) (C.may_fail result.1) (C.calls result.1)) (result.1 ≡ connector) (map string_bytes words.now) (H.files host.old) (H.left host.old) (H.left host.new) (H.taken host.old) (H.taken host.new) }
+    ensures opened { Asks Command.Run (map string_bytes words.now) → result.0 ≡ End.Done → IsAttachedFor (map string_bytes words.now) (H.files host.old) (C.attached result.1) }
     ensures still { ReadsAlone (map string_bytes words.now) → (H.left host.new ≡ H.left host.old) × (H.read_faults host.new ≡ H.read_faults host.old) }
     ensures fetch_cause { HasCause true (H.fetch_faults host.old) (H.fetch_faults host.new) (result.0 ≡ End.FetchFault) }
     ensures fetch_steady { H.is_steady host.old ≡ true → HasSchemaFile (map string_bytes words.now) (H.files host.old) → result.0 ≡ End.FetchFault → ⊥ }
@@ -351,6 +354,7 @@ fn offline_over<C: Connector, H: Host>(
     ensures answered { Asks Command.Run (map string_bytes words.now) → result.0 ≡ 0 → AnswersAll (connected (C.keeps connector) (C.told connector) (C.fault_count connector) (C.misfit_count connector) (C.may_fail connector) (C.calls connector)) (connected (C.keeps result.1) (C.told result.1) (C.fault_count result.1) (C.misfit_count result.1) (C.may_fail result.1) (C.calls result.1)) (map string_bytes words.now) (H.files host.old) (H.left host.old) (H.left host.new) (H.taken host.old) (H.taken host.new) }
     ensures validated { Asks Command.Validate (map string_bytes words.now) → result.0 ≡ 0 → SaysOk (map string_bytes words.now) (H.files host.old) (H.left host.old) (H.left host.new) (H.taken host.old) (H.taken host.new) }
     ensures laid { Asks Command.Layout (map string_bytes words.now) → result.0 ≡ 0 → SaysLayout (map string_bytes words.now) (H.files host.old) (H.left host.old) (H.left host.new) (H.taken host.old) (H.taken host.new) }
+    ensures opened { Asks Command.Run (map string_bytes words.now) → result.0 ≡ 0 → IsAttachedFor (map string_bytes words.now) (H.files host.old) (C.attached result.1) }
     ensures still { ReadsAlone (map string_bytes words.now) → (H.left host.new ≡ H.left host.old) × (H.read_faults host.new ≡ H.read_faults host.old) }
     ensures apart { (result.0 ≡ 2) ⊎ ((result.0 ≡ 3) ⊎ ReadsAlone (map string_bytes words.now)) → result.1 ≡ connector }
     ensures limit { result.0 ≡ 7 → IfSome (H.left host.new) (λ unread. IsSomeAnd (H.left host.old) (λ input. longest_input < length input)) }
@@ -396,6 +400,7 @@ pub fn offline<H: Host>(
     ensures answered { Asks Command.Run (map string_bytes words.now) → result.status ≡ 0 → AnswersAll (connected (keeps memory) (told memory) (fault_count memory) (misfit_count memory) (may_fail memory) (calls memory)) (connected (keeps result.memory) (told result.memory) (fault_count result.memory) (misfit_count result.memory) (may_fail result.memory) (calls result.memory)) (map string_bytes words.now) (H.files host.old) (H.left host.old) (H.left host.new) (H.taken host.old) (H.taken host.new) }
     ensures validated { Asks Command.Validate (map string_bytes words.now) → result.status ≡ 0 → SaysOk (map string_bytes words.now) (H.files host.old) (H.left host.old) (H.left host.new) (H.taken host.old) (H.taken host.new) }
     ensures laid { Asks Command.Layout (map string_bytes words.now) → result.status ≡ 0 → SaysLayout (map string_bytes words.now) (H.files host.old) (H.left host.old) (H.left host.new) (H.taken host.old) (H.taken host.new) }
+    ensures opened { Asks Command.Run (map string_bytes words.now) → result.status ≡ 0 → IsAttachedFor (map string_bytes words.now) (H.files host.old) (attached result.memory) }
     ensures still { ReadsAlone (map string_bytes words.now) → (H.left host.new ≡ H.left host.old) × (H.read_faults host.new ≡ H.read_faults host.old) }
     ensures apart { (result.status ≡ 2) ⊎ ((result.status ≡ 3) ⊎ ReadsAlone (map string_bytes words.now)) → result.memory ≡ memory }
     ensures limit { result.status ≡ 7 → IfSome (H.left host.new) (λ unread. IsSomeAnd (H.left host.old) (λ input. longest_input < length input)) }
@@ -430,6 +435,7 @@ pub fn command<H: Host>(
     ensures answered { Asks Command.Run (map string_bytes words.now) → result.status ≡ 0 → AnswersAll (connected (keeps memory) (told memory) (fault_count memory) (misfit_count memory) (may_fail memory) (calls memory)) (connected (keeps result.memory) (told result.memory) (fault_count result.memory) (misfit_count result.memory) (may_fail result.memory) (calls result.memory)) (map string_bytes words.now) (H.files host.old) (H.left host.old) (H.left host.new) (H.taken host.old) (H.taken host.new) }
     ensures validated { Asks Command.Validate (map string_bytes words.now) → result.status ≡ 0 → SaysOk (map string_bytes words.now) (H.files host.old) (H.left host.old) (H.left host.new) (H.taken host.old) (H.taken host.new) }
     ensures laid { Asks Command.Layout (map string_bytes words.now) → result.status ≡ 0 → SaysLayout (map string_bytes words.now) (H.files host.old) (H.left host.old) (H.left host.new) (H.taken host.old) (H.taken host.new) }
+    ensures opened { Asks Command.Run (map string_bytes words.now) → result.status ≡ 0 → IsAttachedFor (map string_bytes words.now) (H.files host.old) (attached result.memory) }
     ensures still { ReadsAlone (map string_bytes words.now) → (H.left host.new ≡ H.left host.old) × (H.read_faults host.new ≡ H.read_faults host.old) }
     ensures apart { (result.status ≡ 2) ⊎ ((result.status ≡ 3) ⊎ ReadsAlone (map string_bytes words.now)) → result.memory ≡ memory }
     ensures limit { result.status ≡ 7 → IfSome (H.left host.new) (λ unread. IsSomeAnd (H.left host.old) (λ input. longest_input < length input)) }

@@ -4,8 +4,6 @@
 mod commands;
 mod real;
 mod refusal;
-#[cfg(test)]
-mod tests;
 mod words;
 
 pub use commands::{Ended, command, offline};

@@ -6,19 +6,19 @@ use Rattle.qe_base.specs.declared.answer.Answer.{Answer}
 use Rattle.qe_base.specs.declared.answer.OpFault.{OpFault}
 use Rattle.qe_base.specs.declared.answer.OpFault.TheVariants as fault
 use Rattle.qe_base.specs.declared.write.Op.{Op}
-use Rattle.qe_exchange.specs.Exchange.{outside}
+use Rattle.qe_history.specs.Exchange.{outside}
 use Rattle.qe_history.specs.State.{IsLater}
 use Rattle.qe_lines.specs.Run.{Goes, IsRepliedTo}
-use Rattle.qe_plain.specs.Plain.{plain}
-use Rattle.qe_schema.specs.Schemas.{Schema}
-use Rattle.qe_tables.specs.Tables.{Tables}
+use Rattle.qe_writing.specs.Plain.{plain}
+use Rattle.qe_base.specs.Schemas.{Schema}
+use Rattle.qe_schema.specs.Tables.{Tables}
 use Rattle.qe_desk.specs.Settles.{Settles, HasFaults, CountsFit, reply_to}
-use Rattle.qe_desk.specs.Stands.{Stands}
+use Rattle.qe_desk.specs.Stands.{StandsForState}
 use Rattle.qe_desk.proofs.Replied.{with_live, with_faults, answer_replied, rule_replied, misfit_replied, memory_replied, failed_replied}
 
 -- it was answered, and all its changes were made below
 answered_goes : (schema : Schema) (op : Op) (answer : Answer) (told new : Option Tables) (count now : ℕ) (may_fail may_now : Bool) → IfSome told (λ tables. (plain schema op outside tables).answer ≡ Ok answer) → new ≡ option_map (λ tables. (plain schema op outside tables).tables) told → count ≤ now
-    → (may_fail ≡ false → may_now ≡ false) → Goes (Stands schema told count may_fail) (Stands schema new now may_now) (IsRepliedTo op (reply_to (Ok answer)))
+    → (may_fail ≡ false → may_now ≡ false) → Goes (StandsForState schema told count may_fail) (StandsForState schema new now may_now) (IsRepliedTo op (reply_to (Ok answer)))
 answered_goes schema op answer told new count now may_fail may_now answers new_is later sure = λ before stood. record {
   after = with_live before new;
   stood = record { schema = stood.schema; live = refl; faults = omega (arith, stood.faults, later); steady = λ steady. sure (stood.steady steady) };
@@ -39,7 +39,7 @@ not_steady false may_fail sure never = refl
 
 -- it was refused, and the tables below stay
 refused_goes : (schema : Schema) (op : Op) (why : OpFault) (told new : Option Tables) (count now : ℕ) (may_fail may_now : Bool) → IsCaused schema op told count now may_fail why → new ≡ told → count ≤ now → (may_fail ≡ false → may_now ≡ false)
-    → Goes (Stands schema told count may_fail) (Stands schema new now may_now) (IsRepliedTo op (reply_to (Err why)))
+    → Goes (StandsForState schema told count may_fail) (StandsForState schema new now may_now) (IsRepliedTo op (reply_to (Err why)))
 refused_goes schema op (fault.Rule broken) told new count now may_fail may_now why same later sure = λ before stood. record {
   after = with_live before told;
   stood = record { schema = stood.schema; live = sym same; faults = omega (arith, stood.faults, later); steady = λ steady. sure (stood.steady steady) };
@@ -85,6 +85,6 @@ caused schema op fault.Memory told new count now may_fail may_now settles faults
 
 -- from each state that stood, the reply is a step to one that stands
 pub goes : (schema : Schema) (op : Op) (told new : Option Tables) (count now : ℕ) (may_fail may_now : Bool) (done : Result Answer OpFault) → Settles (plain schema op outside) told new done → HasFaults (is_some told) may_fail may_now count now done → CountsFit done
-    → Goes (Stands schema told count may_fail) (Stands schema new now may_now) (IsRepliedTo op (reply_to done))
+    → Goes (StandsForState schema told count may_fail) (StandsForState schema new now may_now) (IsRepliedTo op (reply_to done))
 goes schema op told new count now may_fail may_now (Ok answer) settles faults fit = answered_goes schema op answer told new count now may_fail may_now settles.answer settles.ok faults.failed.later faults.sure
 goes schema op told new count now may_fail may_now (Err why) settles faults fit = refused_goes schema op why told new count now may_fail may_now (caused schema op why told new count now may_fail may_now settles faults fit) settles.err faults.failed.later faults.sure

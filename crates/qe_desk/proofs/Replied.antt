@@ -6,12 +6,12 @@ use Rattle.qe_base.specs.declared.answer.OpFault.TheVariants as fault
 use Rattle.qe_base.specs.declared.answer.Rule.{Rule}
 use Rattle.qe_base.specs.declared.value.TableId.{TableId}
 use Rattle.qe_base.specs.declared.write.Op.{Op}
-use Rattle.qe_tables.specs.Tables.{Tables}
-use Rattle.qe_plain.specs.Plain.{Done, plain}
-use Rattle.qe_history.specs.declared.Reply.{Reply}
-use Rattle.qe_history.specs.declared.Reply.TheVariants as replies
+use Rattle.qe_schema.specs.Tables.{Tables}
+use Rattle.qe_writing.specs.Plain.{Done, plain}
+use Rattle.qe_base.specs.declared.event.Reply.{Reply}
+use Rattle.qe_base.specs.declared.event.Reply.TheVariants as replies
 use Rattle.qe_history.specs.State.{State, CarriesOut, IsLater, reply_of}
-use Rattle.qe_exchange.specs.Exchange.{outside}
+use Rattle.qe_history.specs.Exchange.{outside}
 use Rattle.qe_lines.specs.Run.{IsRepliedTo}
 
 abbrev pub with_live : State → Option Tables → State

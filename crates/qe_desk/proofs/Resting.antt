@@ -1,15 +1,15 @@
 -- Views between operations: what is seen is what is kept below.
 use Rattle.std.proofs.Common.{◌≡◌, ℕ, [], ◌∷◌, ◌++◌, length, Option, Some, sym, ap, ◌∙◌, subst}
-use Rattle.std.specs.Prelude.{Result, Ok, Err, IsErrAnd, option_map, slice_get, unwrap_or}
+use Rattle.std.specs.Prelude.{Result, Ok, Err, option_map, slice_get, unwrap_or}
 use Rattle.qe_base.specs.declared.answer.Answer.{Answer}
 use Rattle.qe_base.specs.declared.answer.OpFault.{OpFault}
-use Rattle.qe_changes.specs.declared.ConnFault.{ConnFault}
-use Rattle.qe_changes.specs.declared.ConnFault.TheVariants as conn
+use Rattle.qe_view.specs.declared.changes.ConnFault.{ConnFault}
+use Rattle.qe_view.specs.declared.changes.ConnFault.TheVariants as conn
 use Rattle.qe_ops.specs.Leaves.{CanGoBack}
-use Rattle.qe_ops.specs.Performs.{Answers, Performs}
+use Rattle.qe_ops.specs.Performs.{AnswersAs, Performs}
 use Rattle.qe_ops.specs.Refusals.{answered_fault}
-use Rattle.qe_plain.specs.Plain.{Done}
-use Rattle.qe_tables.specs.Tables.{Tables}
+use Rattle.qe_writing.specs.Plain.{Done}
+use Rattle.qe_schema.specs.Tables.{Tables}
 use Rattle.qe_view.specs.Versions.{Versions, GoesBack}
 use Rattle.qe_desk.specs.Settles.{Settles}
 use Rattle.qe_desk.specs.Stands.{at_rest}
@@ -26,18 +26,13 @@ below_is told after is = ap (λ (v : Versions). v.below) is
 pub rests : (told : Option Tables) (after : Versions) → after ≡ at_rest told → IsAtRest after
 rests told after is = is ∙ ap at_rest (sym (below_is told after is))
 
--- what a `?` hands on
-pub handed_on : {T E : Type 0} (P : Result T E → Type 0) (result : Result T E) (why : E) → IsErrAnd result (λ e. e ≡ why) → P (Err why) → P result
-handed_on P (Ok done) why is holds = absurd is
-handed_on P (Err e) why is holds = subst (λ x. P (Err x)) (sym is) holds
-
 -- the operation was refused
 pub refused_rests : (done : Tables → Done) (before after : Versions) (why : OpFault) → IsAtRest before → Performs done before after (Err why) → IsAtRest after
 refused_rests done before after why rest performs = rests before.below after (performs.err ∙ rest)
 
 pub refused_settles : (done : Tables → Done) (before after : Versions) (why : OpFault) → IsAtRest before → Performs done before after (Err why) → Settles done before.below after.below (Err why)
 refused_settles done before after why rest performs = record {
-  answer = subst (λ (o : Option Tables). Answers done o (Err why)) (now_is_below before rest) performs.answer;
+  answer = subst (λ (o : Option Tables). AnswersAs done o (Err why)) (now_is_below before rest) performs.answer;
   ok = tt;
   err = ap (λ (v : Versions). v.below) performs.err;
 }
@@ -45,7 +40,7 @@ refused_settles done before after why rest performs = record {
 -- it was answered, and its changes were made below
 pub answered_settles : (done : Tables → Done) (before middle after : Versions) (answer : Answer) → IsAtRest before → Performs done before middle (Ok answer) → after ≡ at_rest middle.now → Settles done before.below after.below (Ok answer)
 answered_settles done before middle after answer rest performs settled = record {
-  answer = subst (λ (o : Option Tables). Answers done o (Ok answer)) (now_is_below before rest) performs.answer;
+  answer = subst (λ (o : Option Tables). AnswersAs done o (Ok answer)) (now_is_below before rest) performs.answer;
   ok = below_is middle.now after settled ∙ performs.ok.now ∙ ap (λ (o : Option Tables). option_map (λ tables. (done tables).tables) o) (now_is_below before rest);
   err = tt;
 }
@@ -61,7 +56,7 @@ taken_back told before middle after rest can goes =
 pub unsettled_back : (before middle kept after : Versions) → IsAtRest before → CanGoBack before middle → kept ≡ middle → GoesBack 0 kept after → after ≡ at_rest before.below
 unsettled_back before middle kept after rest can same goes = taken_back before.below before middle after rest can (subst (λ v. GoesBack 0 v after) same goes)
 
-fault_answers : (done : Tables → Done) (told : Option Tables) (first last : ℕ) (one : ConnFault) → Answers done told (Err (answered_fault first last one))
+fault_answers : (done : Tables → Done) (told : Option Tables) (first last : ℕ) (one : ConnFault) → AnswersAs done told (Err (answered_fault first last one))
 fault_answers done told first last conn.Failed = tt
 fault_answers done told first last (conn.Misfit table column) = tt
 fault_answers done told first last conn.Memory = tt

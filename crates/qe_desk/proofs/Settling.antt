@@ -3,12 +3,12 @@ use Rattle.std.proofs.Common.{◌≡◌, ℕ, ◌+◌, ◌-◌, ◌^◌, ◌≤�
 use Rattle.std.specs.Prelude.{Err, IsErrOf}
 use Rattle.qe_base.specs.Causes.{HasCause}
 use Rattle.qe_base.specs.declared.answer.Answer.{Answer}
-use Rattle.qe_changes.specs.Answers.{is_misfit}
-use Rattle.qe_changes.specs.declared.ConnFault.{ConnFault}
-use Rattle.qe_changes.specs.declared.ConnFault.TheVariants as conn
-use Rattle.qe_ops.specs.Leaves.{Counts, IsFailed, IsMisfit, Leaves}
+use Rattle.qe_view.specs.Answers.{is_misfit}
+use Rattle.qe_view.specs.declared.changes.ConnFault.{ConnFault}
+use Rattle.qe_view.specs.declared.changes.ConnFault.TheVariants as conn
+use Rattle.qe_ops.specs.Leaves.{ViewCounts, IsFailed, IsMisfitFault, Leaves}
 use Rattle.qe_ops.specs.Refusals.{TellsCounts, answered_fault, fault_told}
-use Rattle.qe_schema.specs.Schemas.{Schema}
+use Rattle.qe_base.specs.Schemas.{Schema}
 use Rattle.qe_desk.specs.Settles.{HasFaults}
 
 rose_since : (cap first before now : ℕ) → first ≤ before → min (before + 1) cap ≤ now → min (first + 1) cap ≤ now
@@ -27,7 +27,7 @@ failed_is first last conn.Failed is = refl
 failed_is first last (conn.Misfit table column) is = is
 failed_is first last conn.Memory is = is
 
-misfit_is : (first last : ℕ) (one : ConnFault) → IsMisfit (fault_told {T = Answer} (Err (answered_fault first last one))) → is_misfit one ≡ true
+misfit_is : (first last : ℕ) (one : ConnFault) → IsMisfitFault (fault_told {T = Answer} (Err (answered_fault first last one))) → is_misfit one ≡ true
 misfit_is first last conn.Failed is = is
 misfit_is first last (conn.Misfit table column) is = is
 misfit_is first last conn.Memory is = is
@@ -38,7 +38,7 @@ tells_counts before after first last (conn.Misfit table column) first_is last_is
 tells_counts before after first last conn.Memory first_is last_is = tt
 
 -- it was answered, but its changes were not made below
-pub unsettled_faults : (schema : Schema) (tells told : Bool) (before middle : Counts) (may_now : Bool) (now first last : ℕ) (one : ConnFault) → Leaves schema tells before middle None → HasCause middle.may_fail middle.faults now (IsErrOf {T = Unit {0}} (Err one) conn.Failed) → (is_misfit one ≡ true → ⊥) → (middle.may_fail ≡ false → may_now ≡ false)
+pub unsettled_faults : (schema : Schema) (tells told : Bool) (before middle : ViewCounts) (may_now : Bool) (now first last : ℕ) (one : ConnFault) → Leaves schema tells before middle None → HasCause middle.may_fail middle.faults now (IsErrOf {T = Unit {0}} (Err one) conn.Failed) → (is_misfit one ≡ true → ⊥) → (middle.may_fail ≡ false → may_now ≡ false)
     → first ≡ before.faults → last ≡ now → HasFaults told before.may_fail may_now before.faults now (Err (answered_fault first last one))
 unsettled_faults schema tells told before middle may_now now first last one leaves other none sure first_is last_is = record {
   failed = cause_since before.may_fail middle.may_fail before.faults middle.faults now _ _ (IsErrOf {T = Unit {0}} (Err one) conn.Failed) (λ failed. ap Err (failed_is first last one failed)) leaves.failed leaves.sure other;

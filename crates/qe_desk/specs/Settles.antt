@@ -4,16 +4,16 @@ use Rattle.qe_base.specs.Causes.{HasCause}
 use Rattle.qe_base.specs.declared.answer.Answer.{Answer}
 use Rattle.qe_base.specs.declared.answer.OpFault.{OpFault}
 use Rattle.qe_base.specs.declared.answer.OpFault.TheVariants as fault
-use Rattle.qe_history.specs.declared.Reply.{Reply}
-use Rattle.qe_history.specs.declared.Reply.TheVariants as replies
-use Rattle.qe_ops.specs.Leaves.{IsFailed, IsMisfit}
-use Rattle.qe_ops.specs.Performs.{Answers}
+use Rattle.qe_base.specs.declared.event.Reply.{Reply}
+use Rattle.qe_base.specs.declared.event.Reply.TheVariants as replies
+use Rattle.qe_ops.specs.Leaves.{IsFailed, IsMisfitFault}
+use Rattle.qe_ops.specs.Performs.{AnswersAs}
 use Rattle.qe_ops.specs.Refusals.{TellsCounts, fault_told}
 use Rattle.qe_overlay.specs.Fits.{Stands, versions_over}
 use Rattle.qe_overlay.specs.Held.{Held}
-use Rattle.qe_plain.specs.Plain.{Done}
-use Rattle.qe_schema.specs.Schemas.{Schema}
-use Rattle.qe_tables.specs.Tables.{Tables}
+use Rattle.qe_writing.specs.Plain.{Done}
+use Rattle.qe_base.specs.Schemas.{Schema}
+use Rattle.qe_schema.specs.Tables.{Tables}
 use Rattle.qe_view.specs.Layouts.{Layout}
 use Rattle.qe_desk.specs.Stands.{at_rest}
 
@@ -26,7 +26,7 @@ pub record IsReady (schema seen : Schema) (attached : Option Layout) (told : Opt
 -- The answer or the broken rule is that of the told tables, and so are the tables after it. After a refusal the
 -- tables are as before.
 pub record Settles (done : Tables → Done) (before after : Option Tables) (result : Result Answer OpFault) : Type 0 where
-  pub answer : Answers done before result
+  pub answer : AnswersAs done before result
   pub ok : OnOk result (after ≡ option_map (λ tables. (done tables).tables) before)
   pub err : OnErr result (after ≡ before)
 
@@ -35,7 +35,7 @@ pub record Settles (done : Tables → Done) (before after : Option Tables) (resu
 pub record HasFaults (tells may_fail may_now : Bool) (before after : ℕ) (result : Result Answer OpFault) : Type 0 where
   pub failed : HasCause may_fail before after (IsFailed (fault_told result))
   pub counts : TellsCounts before after result
-  pub misfit : IsMisfit (fault_told result) → tells ≡ false
+  pub misfit : IsMisfitFault (fault_told result) → tells ≡ false
   pub sure : may_fail ≡ false → may_now ≡ false
 
 -- the counts of a failed connector have 64 bits

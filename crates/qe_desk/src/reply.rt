@@ -1,10 +1,9 @@
 //! The reply to an operation.
 ghost use Rattle.std.specs.Prelude.{◌≡◌, None};
-ghost use Rattle.qe_history.specs.declared.Reply.TheVariants as replies;
+ghost use Rattle.qe_base.specs.declared.event.Reply.TheVariants as replies;
 ghost use Rattle.qe_desk.specs.Settles.{CountsFit, reply_to};
 
-use qe_base::{Answer, OpFault};
-use qe_history::Reply;
+use qe_base::{Answer, OpFault, Reply};
 
 /// What is replied for an answer or a refusal.
 pub fn reply_of(done: Result<Answer, OpFault>) -> Reply

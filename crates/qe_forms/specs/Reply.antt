@@ -7,9 +7,8 @@ use Rattle.serde_json.specs.Written.{compact_text}
 use Rattle.qe_base.specs.declared.value.Value.{Value}
 use Rattle.qe_base.specs.declared.value.Value.TheVariants as value
 use Rattle.qe_base.specs.declared.schema.Column.{Column}
-use Rattle.qe_base.specs.declared.schema.Key.{Key}
 use Rattle.qe_base.specs.declared.schema.Table.{Table}
-use Rattle.qe_schema.specs.Schemas.{Schema}
+use Rattle.qe_base.specs.Schemas.{Schema}
 use Rattle.qe_base.specs.declared.answer.Answer.{Answer, fold-Answer}
 use Rattle.qe_base.specs.declared.answer.Answer.TheOpen.{Answer-F}
 use Rattle.qe_base.specs.declared.answer.Answer.TheOpen as answer
@@ -17,9 +16,10 @@ use Rattle.qe_base.specs.declared.answer.Rule.{Rule}
 use Rattle.qe_base.specs.declared.answer.Rule.TheVariants as rule
 use Rattle.qe_base.specs.declared.answer.OpFault.{OpFault}
 use Rattle.qe_base.specs.declared.answer.OpFault.TheVariants as fault
-use Rattle.qe_tables.specs.Tables.{table_at}
-use Rattle.qe_history.specs.declared.Reply.{Reply}
-use Rattle.qe_history.specs.declared.Reply.TheVariants as reply
+use Rattle.qe_schema.specs.Tables.{table_at}
+use Rattle.qe_reading.specs.Page.{columns_of}
+use Rattle.qe_base.specs.declared.event.Reply.{Reply}
+use Rattle.qe_base.specs.declared.event.Reply.TheVariants as reply
 
 -- no answer has a value of the other kinds yet, and null stands for it
 abbrev pub scalar_data : Value → Data
@@ -72,15 +72,11 @@ column_name (Some column) = string column.name
 abbrev pub names_data : Table → List ℕ → Data
 names_data table columns = array (items_of (map (λ column. column_name (slice_get table.columns column)) columns))
 
-abbrev pub columns_of_key : Option Key → List ℕ
-columns_of_key None = []
-columns_of_key (Some key) = key.columns
-
 -- no operation breaks the other rules yet, and null stands for their error
 abbrev pub rule_data : Schema → Option ℕ → Rule → Data
 rule_data schema index (rule.Unique table key) =
     indexed_data index (codes "unique") (codes "P2002")
-    (member (codes "model") (string (table_at schema table.0).name) (member (codes "target") (names_data (table_at schema table.0) (columns_of_key (slice_get (table_at schema table.0).keys key))) no_members))
+    (member (codes "model") (string (table_at schema table.0).name) (member (codes "target") (names_data (table_at schema table.0) (columns_of (slice_get (table_at schema table.0).keys key))) no_members))
 rule_data schema index (rule.Required relation) = null
 rule_data schema index (rule.Unconnected table field) = null
 rule_data schema index (rule.Range table column why) = null

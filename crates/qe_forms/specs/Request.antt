@@ -1,5 +1,5 @@
 -- What a line asks for: its JSON value, and the operation that the value is a request of.
-use Rattle.std.specs.Prelude.{ℕ, ℤ, List, [], ◌∷◌, Bool, false, ◌&&◌, ◌==◌, not, if◌then◌else◌, length, map, Option, Some, None, option_map, option_and_then, is_some, slice_get, codes, bytes_eq}
+use Rattle.std.specs.Prelude.{ℕ, ℤ, List, [], ◌∷◌, Bool, false, ◌&&◌, ◌==◌, if◌then◌else◌, length, map, Option, Some, None, option_map, option_and_then, is_some, slice_get, codes, bytes_eq}
 use Rattle.std.specs.List.{list_all, enumerate_from}
 use Rattle.std.specs.Str.{is_utf8}
 use Rattle.serde_json.specs.Data.{Data, object}
@@ -13,16 +13,16 @@ use Rattle.qe_base.specs.declared.value.Value.{Value}
 use Rattle.qe_base.specs.declared.value.Value.TheVariants as value
 use Rattle.qe_base.specs.declared.schema.Column.{Column}
 use Rattle.qe_base.specs.declared.schema.Table.{Table}
-use Rattle.qe_schema.specs.Schemas.{Schema}
+use Rattle.qe_base.specs.Schemas.{Schema}
 use Rattle.qe_base.specs.declared.query.Filter as filter
 use Rattle.qe_base.specs.declared.query.Pick.{Pick, roll-Pick}
 use Rattle.qe_base.specs.declared.write.Create.{roll-Create}
 use Rattle.qe_base.specs.declared.write.Op.{Op}
 use Rattle.qe_base.specs.declared.write.Op.TheVariants as op
-use Rattle.qe_schema.specs.Schemas.{table_named}
+use Rattle.qe_base.specs.Schemas.{table_named}
 use Rattle.qe_scalars.specs.Numbers.{is_small}
-use Rattle.qe_tables.specs.Tables.{table_at, id_columns}
-use Rattle.qe_plain.specs.Simple.{is_simple}
+use Rattle.qe_schema.specs.Tables.{table_at, id_columns}
+use Rattle.qe_reading.specs.CarriedOut.{is_carried_out}
 
 -- an object whose members have just these names
 abbrev pub is_object_of : List (List ℕ) → Data → Bool
@@ -80,17 +80,24 @@ find_by id table (number ∷ other ∷ others) json = None
 abbrev pub find_of : TableId → Table → Data → Option Op
 find_of id table json = find_by id table (id_columns table) json
 
--- the operation of an action on a model that is simple, by its arguments
+-- the operation of an action on a table, by its arguments
+abbrev pub op_by : TableId → Table → List ℕ → Data → Option Op
+op_by id table action arguments =
+    if bytes_eq action (codes "create") then option_and_then (create_of id table) (alone (codes "data") arguments)
+    else (if bytes_eq action (codes "findUnique") then option_and_then (find_of id table) (alone (codes "where") arguments) else None)
+
+-- the operation, where it is carried out so far
+abbrev pub if_carried_out : Schema → Op → Option Op
+if_carried_out schema found = if is_carried_out schema found then Some found else None
+
+-- the operation of an action on a table of the schema that is carried out, by its arguments
 abbrev pub op_of : Schema → TableId → List ℕ → Data → Option Op
-op_of schema id action arguments =
-    if not (is_simple (table_at schema id.0)) then None
-    else (if bytes_eq action (codes "create") then option_and_then (create_of id (table_at schema id.0)) (alone (codes "data") arguments)
-    else (if bytes_eq action (codes "findUnique") then option_and_then (find_of id (table_at schema id.0)) (alone (codes "where") arguments) else None))
+op_of schema id action arguments = option_and_then (if_carried_out schema) (op_by id (table_at schema id.0) action arguments)
 
 abbrev pub text_at : List ℕ → Data → Option (List ℕ)
 text_at name json = option_and_then as_str (get name json)
 
--- the operation that a value is a request of
+-- the operation that a value is a request of, which is carried out so far
 abbrev pub request_of : Schema → Data → Option Op
 request_of schema json =
     if is_object_of (codes "action" ∷ codes "modelName" ∷ codes "query" ∷ []) json

@@ -1,14 +1,14 @@
 -- The history of all entries, and when it is legal.
 use Rattle.std.specs.Prelude.{◌≡◌, ℕ, ◌+◌, ◌≤◌, List, [], ◌∷◌, slice_get, IfSome, IsSomeAnd}
-use Rattle.qe_history.specs.declared.What.{What}
-use Rattle.qe_history.specs.declared.What.TheVariants as what
-use Rattle.qe_history.specs.declared.Entry.{Entry}
+use Rattle.qe_base.specs.declared.event.What.{What}
+use Rattle.qe_base.specs.declared.event.What.TheVariants as what
+use Rattle.qe_base.specs.declared.event.Entry.{Entry}
 use Rattle.qe_history.specs.State.{State, Steps}
 
 -- the entries, from this place on, lead from one state to the other
-abbrev pub Leads : State → ℕ → List Entry → State → Type 0
-Leads before place [] after = after ≡ before
-Leads before place (entry ∷ entries) after = (next : State) × Steps before place entry.event entry.reply next × Leads next (place + 1) entries after
+abbrev pub StepsThrough : State → ℕ → List Entry → State → Type 0
+StepsThrough before place [] after = after ≡ before
+StepsThrough before place (entry ∷ entries) after = (next : State) × Steps before place entry.event entry.reply next × StepsThrough next (place + 1) entries after
 
 abbrev pub Greets : What → Type 0
 Greets what.Hello = Unit {0}
@@ -21,5 +21,5 @@ HaveGreeted history =
 
 -- The entries, from the first on, are one legal history, which leaves this state.
 pub record IsLegal (opening : State) (history : List Entry) (after : State) : Type 0 where
-  pub leads : Leads opening 0 history after
+  pub leads : StepsThrough opening 0 history after
   pub greeted : HaveGreeted history

@@ -1,2 +1,4 @@
+pub mod Exchange
 pub mod History
+pub mod Lines
 pub mod State

@@ -1,19 +1,19 @@
 -- The state of the engine, and one step of it.
 use Rattle.std.specs.Prelude.{◌≡◌, ◌⊎◌, ℕ, ◌<◌, ◌≤◌, ◌-◌, ◌^◌, Bool, true, false, Option, Some, None, Result, Ok, Err, nat_lt}
-use Rattle.qe_schema.specs.Schemas.{Schema}
+use Rattle.qe_base.specs.Schemas.{Schema}
 use Rattle.qe_base.specs.declared.answer.Answer.{Answer}
 use Rattle.qe_base.specs.declared.answer.Rule.{Rule}
 use Rattle.qe_base.specs.declared.answer.OpFault.{OpFault}
 use Rattle.qe_base.specs.declared.answer.OpFault.TheVariants as fault
 use Rattle.qe_base.specs.declared.answer.Outside.{Outside}
 use Rattle.qe_base.specs.declared.write.Op.{Op}
-use Rattle.qe_tables.specs.Tables.{Tables}
-use Rattle.qe_plain.specs.Plain.{plain}
-use Rattle.qe_history.specs.declared.What.{What}
-use Rattle.qe_history.specs.declared.What.TheVariants as what
-use Rattle.qe_history.specs.declared.Event.{Event}
-use Rattle.qe_history.specs.declared.Reply.{Reply}
-use Rattle.qe_history.specs.declared.Reply.TheVariants as replies
+use Rattle.qe_schema.specs.Tables.{Tables}
+use Rattle.qe_writing.specs.Plain.{plain}
+use Rattle.qe_base.specs.declared.event.What.{What}
+use Rattle.qe_base.specs.declared.event.What.TheVariants as what
+use Rattle.qe_base.specs.declared.event.Event.{Event}
+use Rattle.qe_base.specs.declared.event.Reply.{Reply}
+use Rattle.qe_base.specs.declared.event.Reply.TheVariants as replies
 
 -- The schema; the tables as they are for all, where the connector tells them; how many faults of the connector
 -- were counted when it last failed, or at the opening; and whether it never fails.

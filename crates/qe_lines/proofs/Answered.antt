@@ -1,23 +1,23 @@
 -- A line's answer, by what its reading and its operation gave.
 use Rattle.std.proofs.Common.{◌≡◌, ℕ, List, [], ◌∷◌, ◌++◌, refl, sym, subst, inl, inr}
 use Rattle.std.specs.Prelude.{Result, Ok, Err, OnOk}
-use Rattle.qe_schema.specs.Schemas.{Schema}
+use Rattle.qe_base.specs.Schemas.{Schema}
 use Rattle.qe_base.specs.declared.write.Op.{Op}
-use Rattle.qe_history.specs.declared.Reply.{Reply}
+use Rattle.qe_base.specs.declared.event.Reply.{Reply}
 use Rattle.qe_history.specs.State.{State}
 use Rattle.qe_forms.specs.Request.{asked_of, asks, not_json, unbuilt, Asked}
 use Rattle.qe_forms.specs.Reply.{text_of, not_json_text, unbuilt_text, memory_text}
-use Rattle.qe_exchange.specs.Exchange.{told, entered, ComesOf}
+use Rattle.qe_history.specs.Exchange.{told, entered, ComesOf}
 use Rattle.qe_request.specs.declared.lines.LineFault.{LineFault}
 use Rattle.qe_request.specs.declared.lines.LineFault.TheVariants as lines
-use Rattle.qe_lines.specs.Run.{Answers, IsRepliedTo, fault_text}
+use Rattle.qe_lines.specs.Run.{AnswersLine, IsRepliedTo, fault_text}
 
 pub on_ok : {T E : Type 0} {P Q : Type 0} (r : Result T E) → (P → Q) → OnOk r P → OnOk r Q
 on_ok (Ok x) f p = f p
 on_ok (Err e) f p = tt
 
 -- a line that isn't entered
-pub told_answers : (schema : Schema) (line : List ℕ) (before : State) (text bytes : List ℕ) → ComesOf (asked_of schema line) (told text) → bytes ≡ text ++ 10 ∷ [] → Answers schema line before bytes before
+pub told_answers : (schema : Schema) (line : List ℕ) (before : State) (text bytes : List ℕ) → ComesOf (asked_of schema line) (told text) → bytes ≡ text ++ 10 ∷ [] → AnswersLine schema line before bytes before
 told_answers schema line before text bytes comes written = record { outcome = told text; comes = comes; written = written; leads = refl }
 
 pub not_json_told : (schema : Schema) (line : List ℕ) → asked_of schema line ≡ not_json → ComesOf (asked_of schema line) (told not_json_text)
@@ -43,5 +43,5 @@ fault_told schema line lines.Memory read is none unread = memory_told schema lin
 
 -- a line that is entered
 pub entered_answers : (schema : Schema) (line : List ℕ) (before : State) (op : Op) (reply : Reply) (bytes : List ℕ) (after : State) → asked_of schema line ≡ asks op → bytes ≡ text_of schema reply ++ 10 ∷ []
-    → IsRepliedTo op reply before after → Answers schema line before bytes after
+    → IsRepliedTo op reply before after → AnswersLine schema line before bytes after
 entered_answers schema line before op reply bytes after is written steps = record { outcome = entered op reply; comes = subst (λ a. ComesOf a (entered op reply)) (sym is) refl; written = written; leads = steps }

@@ -2,9 +2,9 @@
 use Rattle.std.proofs.Common.{◌≡◌, ℕ, zero, suc, ◌+◌, ◌<◌, ◌≤◌, List, [], ◌∷◌, ◌++◌, Bool, true, false, refl, sym, ap, ◌∙◌, subst, append_assoc, append-nil, inl, Option, Some, None, length, take, drop, arith, length-append}
 use Rattle.std.specs.Prelude.{IfErr, IfSome, IsSomeAnd, OnOk, Result, Ok, Err, ◌↔◌}
 use Rattle.std.proofs.lemmas.List.{take-append-drop}
-use Rattle.qe_schema.specs.Schemas.{Schema}
+use Rattle.qe_base.specs.Schemas.{Schema}
 use Rattle.qe_history.specs.State.{State}
-use Rattle.qe_exchange.specs.Lines.{is_blank, lines_of}
+use Rattle.qe_history.specs.Lines.{is_blank, lines_of}
 use Rattle.qe_lines.specs.declared.Stop.{Stop}
 use Rattle.qe_lines.specs.declared.Stop.TheVariants as stop
 use Rattle.qe_lines.specs.Ends.{Takes, Stops, Halts, Finishes, EndsRun, cuts, end_by, end_behind, longest_input}

@@ -1,10 +1,10 @@
 -- Lines cut from a stream, and what comes of them one after another.
 use Rattle.std.proofs.Common.{◌≡◌, ℕ, List, [], ◌∷◌, ◌++◌, Bool, true, false, cond, not, ◌||◌, if◌then◌else◌, filter, refl, sym, ap, ◌∙◌, subst, append_assoc, append-nil, true≢false}
-use Rattle.qe_schema.specs.Schemas.{Schema}
+use Rattle.qe_base.specs.Schemas.{Schema}
 use Rattle.qe_history.specs.State.{State}
-use Rattle.qe_exchange.specs.Exchange.{Outcome, ComeOf, outcome_text, bytes_of}
-use Rattle.qe_exchange.specs.Lines.{cut, ahead, is_blank, lines_of}
-use Rattle.qe_lines.specs.Run.{Answers, Runs, OutcomesLead, has_newline}
+use Rattle.qe_history.specs.Exchange.{LineOutcome, ComeOf, outcome_text, bytes_of}
+use Rattle.qe_history.specs.Lines.{cut, ahead, is_blank, lines_of}
+use Rattle.qe_lines.specs.Run.{AnswersLine, Runs, OutcomesLead, has_newline}
 
 pub or_left : (a b : Bool) → a || b ≡ false → a ≡ false
 or_left true b is = is
@@ -39,17 +39,17 @@ lines_line line later one = ap (filter (λ l. not (is_blank l))) (cut_line line 
 pub lines_last : (line : List ℕ) → has_newline line ≡ false → lines_of line ≡ unless_blank (is_blank line) line
 lines_last line one = ap (filter (λ l. not (is_blank l))) (cut_last line one) ∙ kept_line (is_blank line) line [] ∙ append-nil (unless_blank (is_blank line) line)
 
-come_more : (schema : Schema) (lines more : List (List ℕ)) (outcomes others : List Outcome) → ComeOf schema lines outcomes → ComeOf schema more others → ComeOf schema (lines ++ more) (outcomes ++ others)
+come_more : (schema : Schema) (lines more : List (List ℕ)) (outcomes others : List LineOutcome) → ComeOf schema lines outcomes → ComeOf schema more others → ComeOf schema (lines ++ more) (outcomes ++ others)
 come_more schema [] more [] others first second = second
 come_more schema [] more (outcome ∷ outcomes) others first second = absurd first
 come_more schema (line ∷ lines) more [] others first second = absurd first
 come_more schema (line ∷ lines) more (outcome ∷ outcomes) others first second = (first.0, come_more schema lines more outcomes others first.1 second)
 
-bytes_more : (schema : Schema) (outcomes others : List Outcome) → bytes_of schema (outcomes ++ others) ≡ bytes_of schema outcomes ++ bytes_of schema others
+bytes_more : (schema : Schema) (outcomes others : List LineOutcome) → bytes_of schema (outcomes ++ others) ≡ bytes_of schema outcomes ++ bytes_of schema others
 bytes_more schema [] others = refl
 bytes_more schema (outcome ∷ outcomes) others = ap (λ b. (outcome_text schema outcome ++ 10 ∷ []) ++ b) (bytes_more schema outcomes others) ∙ sym (append_assoc (outcome_text schema outcome ++ 10 ∷ []) _ _)
 
-lead_more : (before between after : State) (outcomes others : List Outcome) → OutcomesLead before outcomes between → OutcomesLead between others after → OutcomesLead before (outcomes ++ others) after
+lead_more : (before between after : State) (outcomes others : List LineOutcome) → OutcomesLead before outcomes between → OutcomesLead between others after → OutcomesLead before (outcomes ++ others) after
 lead_more before between after [] others first second = subst (λ t. OutcomesLead t others after) first second
 lead_more before between after (outcome ∷ outcomes) others first second = (first.0, first.1, lead_more first.0 between after outcomes others first.2 second)
 
@@ -65,7 +65,7 @@ runs_more schema lines more before between after bytes others first second = rec
   leads = lead_more before between after first.outcomes second.outcomes first.leads second.leads;
 }
 
-pub runs_one : (schema : Schema) (line : List ℕ) (before after : State) (bytes : List ℕ) → Answers schema line before bytes after → Runs schema (line ∷ []) before bytes after
+pub runs_one : (schema : Schema) (line : List ℕ) (before after : State) (bytes : List ℕ) → AnswersLine schema line before bytes after → Runs schema (line ∷ []) before bytes after
 runs_one schema line before after bytes answers = record {
   outcomes = answers.outcome ∷ [];
   come = (answers.comes, tt);

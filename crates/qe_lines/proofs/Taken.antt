@@ -1,15 +1,15 @@
 -- Taking a line more of a stream.
 use Rattle.std.proofs.Common.{◌≡◌, ℕ, List, [], ◌∷◌, ◌++◌, Bool, true, false, refl, sym, ap, ◌∙◌, subst, append_assoc, append-nil, Option, take, length, length-append, arith, inl, inr, ◌<◌, ◌||◌}
-use Rattle.qe_schema.specs.Schemas.{Schema}
+use Rattle.qe_base.specs.Schemas.{Schema}
 use Rattle.qe_history.specs.State.{State}
-use Rattle.qe_exchange.specs.Exchange.{outcome_text}
-use Rattle.qe_exchange.specs.Lines.{is_blank, lines_of}
+use Rattle.qe_history.specs.Exchange.{outcome_text}
+use Rattle.qe_history.specs.Lines.{is_blank, lines_of}
 use Rattle.std.specs.Prelude.{Result, Ok, Err, IfErr, IsErrAnd}
 use Rattle.qe_lines.specs.declared.Stop.{Stop}
 use Rattle.qe_lines.specs.declared.Stop.TheVariants as stop
 use Rattle.qe_lines.specs.Ends.{Takes, Stops, PartOf, cuts}
 use Rattle.qe_lines.specs.Kept.{Appends}
-use Rattle.qe_lines.specs.Run.{Answers, Goes, LineTaken, LineStopped, Runs, has_newline}
+use Rattle.qe_lines.specs.Run.{AnswersLine, Goes, LineTaken, LineStopped, Runs, has_newline}
 use Rattle.qe_lines.proofs.Going.{goes_as}
 use Rattle.qe_lines.proofs.Runs.{or_left, or_right, lines_line, unless_blank, runs_none, runs_more, runs_one}
 use Rattle.qe_lines.proofs.Wrote.{appends_more, appends_nothing}
@@ -85,7 +85,7 @@ pub one_more : (pending line whole : List ℕ) → has_newline pending ≡ false
 one_more pending line whole first second is = ap has_newline is ∙ both_kept pending line first second
 
 -- an answer has a byte at least
-pub some_bytes : (schema : Schema) (line bytes : List ℕ) (before after : State) → Answers schema line before bytes after → 0 < length bytes
+pub some_bytes : (schema : Schema) (line bytes : List ℕ) (before after : State) → AnswersLine schema line before bytes after → 0 < length bytes
 some_bytes schema line bytes before after answers = omega (arith, ap length answers.written ∙ length-append (outcome_text schema answers.outcome) (10 ∷ []))
 
 -- what was written of a line that stopped

@@ -1,14 +1,14 @@
 -- Where taking lines ends.
 use Rattle.std.specs.Prelude.{◌≡◌, ◌⊎◌, ℕ, ◌<◌, ◌≤◌, List, [], ◌∷◌, ◌++◌, length, take, Bool, true, false, Option, IfSome, IsSomeAnd, Result, Ok, Err}
-use Rattle.qe_schema.specs.Schemas.{Schema}
+use Rattle.qe_base.specs.Schemas.{Schema}
 use Rattle.qe_history.specs.State.{State}
-use Rattle.qe_exchange.specs.Lines.{lines_of}
+use Rattle.qe_history.specs.Lines.{lines_of}
 use Rattle.qe_lines.specs.declared.LinesEnd.{LinesEnd}
 use Rattle.qe_lines.specs.declared.LinesEnd.TheVariants as ends
 use Rattle.qe_lines.specs.declared.Stop.{Stop}
 use Rattle.qe_lines.specs.declared.Stop.TheVariants as stop
 use Rattle.qe_lines.specs.Kept.{Appends}
-use Rattle.qe_lines.specs.Run.{Answers, Runs}
+use Rattle.qe_lines.specs.Run.{AnswersLine, Runs}
 
 -- whether a stop cuts an answer short
 abbrev pub cuts : Stop → Bool
@@ -17,7 +17,7 @@ cuts stop.Memory = false
 
 -- The next line was answered, and so many bytes of its answer were written, but not all.
 abbrev pub CutAt : ℕ → Schema → List (List ℕ) → List ℕ → State → State → Type 0
-CutAt count schema next part before after = (line : List ℕ) × (text : List ℕ) × (next ≡ line ∷ []) × Answers schema line before text after × (count < length text) × (part ≡ take count text)
+CutAt count schema next part before after = (line : List ℕ) × (text : List ℕ) × (next ≡ line ∷ []) × AnswersLine schema line before text after × (count < length text) × (part ≡ take count text)
 
 -- What was written of the next line: nothing, or not all of its answer.
 abbrev pub PartOf : Bool → Schema → List (List ℕ) → List ℕ → State → State → Type 0

@@ -1,6 +1,7 @@
 //! Answering one line.
 ghost use Rattle.std.specs.Prelude.{◌≡◌, ◌++◌, ◌∷◌, [], OnOk, true};
-ghost use Rattle.qe_plain.specs.Fits.{op_fits};
+ghost use Rattle.qe_reading.specs.CarriedOut.{is_carried_out};
+ghost use Rattle.qe_writing.specs.WriteFits.{op_fits};
 ghost use Rattle.qe_forms.specs.Reply.{text_of};
 ghost use Rattle.qe_lines.specs.Run.{Goes, LineAnswered, OpAnswered, fault_text};
 
@@ -38,6 +39,7 @@ fn put_reply_to<D: Desk>(
     out: &mut Vec<u8>,
 ) -> Result<(), Memory>
     requires fits { op_fits schema.now op.now ≡ true }
+    requires carried { is_carried_out schema.now op.now ≡ true }
     requires schema { D.schema desk.old ≡ schema.now }
     requires ready { D.ready desk.old }
     ensures answered { Goes (D.stands desk.old) (D.stands desk.new) (OpAnswered schema.now op.now result out.new.items) }
@@ -57,6 +59,7 @@ fn answer_op<D: Desk>(
     out: &mut Vec<u8>,
 ) -> Result<(), Memory>
     requires fits { op_fits schema.now op ≡ true }
+    requires carried { is_carried_out schema.now op ≡ true }
     requires schema { D.schema desk.old ≡ schema.now }
     requires ready { D.ready desk.old }
     ensures answered { Goes (D.stands desk.old) (D.stands desk.new) (OpAnswered schema.now op result out.new.items) }

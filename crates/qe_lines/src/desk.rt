@@ -1,8 +1,9 @@
 //! What answers operations, one after another.
 ghost use Rattle.std.specs.Prelude.{◌≡◌, true};
 ghost use Rattle.qe_history.specs.State.{State};
-ghost use Rattle.qe_plain.specs.Fits.{op_fits};
-ghost use Rattle.qe_schema.specs.Schemas.{Schema as SchemaSeen};
+ghost use Rattle.qe_reading.specs.CarriedOut.{is_carried_out};
+ghost use Rattle.qe_writing.specs.WriteFits.{op_fits};
+ghost use Rattle.qe_base.specs.Schemas.{Schema as SchemaSeen};
 ghost use Rattle.qe_lines.specs.Run.{Goes, IsRepliedTo};
 
 use qe_base::Op;
@@ -25,6 +26,7 @@ pub trait Desk: Drop {
     fn answer(&mut self, alloc: Global, op: &Op) -> Reply
         requires ready { ready self.old }
         requires fits { op_fits (schema self.old) op.now ≡ true }
+        requires carried { is_carried_out (schema self.old) op.now ≡ true }
         ensures steps { Goes (stands self.old) (stands self.new) (IsRepliedTo op.now result) }
         ensures ready { ready self.new }
         ensures schema { schema self.new ≡ schema self.old };

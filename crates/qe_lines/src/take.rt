@@ -1,7 +1,7 @@
 //! Taking the lines of a stream.
 ghost use Rattle.std.specs.Prelude.{◌≡◌, ◌++◌, ◌∷◌, OnOk, IfErr, false, IsErrOf, MatchOption};
 ghost use Rattle.qe_base.specs.Causes.{HasCause};
-ghost use Rattle.qe_exchange.specs.Lines.{is_blank};
+ghost use Rattle.qe_history.specs.Lines.{is_blank};
 ghost use Rattle.qe_lines.specs.Ends.{Takes, Stops, cuts};
 ghost use Rattle.qe_lines.specs.Run.{Goes, LineTaken, LineStopped, has_newline};
 

@@ -6,11 +6,11 @@ use Rattle.std.proofs.lemmas.Bool.{and_from, and_parts}
 use Rattle.qe_base.specs.declared.value.Row.{Row}
 use Rattle.qe_base.specs.declared.value.Value.{Value}
 use Rattle.qe_base.specs.declared.schema.Table.{Table}
-use Rattle.qe_schema.specs.Schemas.{Schema}
-use Rattle.qe_tables.specs.Fits.{FitsSchema, fit_columns}
-use Rattle.qe_tables.specs.Pairs.{both_values}
-use Rattle.qe_tables.specs.Tables.{Tables, table_at, no_rows}
-use Rattle.qe_changes.specs.After.{pair_row, rows_in, rows_at, is_wanted}
+use Rattle.qe_base.specs.Schemas.{Schema}
+use Rattle.qe_schema.specs.Fits.{FitsSchema, fit_columns}
+use Rattle.qe_schema.specs.Pairs.{both_values}
+use Rattle.qe_schema.specs.Tables.{Tables, table_at, no_rows}
+use Rattle.qe_view.specs.After.{pair_row, rows_in, rows_at, is_wanted}
 use Rattle.qe_mem.specs.Kept.{nothing_kept, empty_for, kept_at, pair_of, tables_of, ArePairs}
 use Rattle.qe_mem.specs.Mem.{AreHeld}
 use Rattle.qe_mem.specs.declared.tables.MemTable.{MemTable}

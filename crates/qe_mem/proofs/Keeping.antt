@@ -8,8 +8,8 @@ use Rattle.std.proofs.lemmas.Option.{unwrap_or-slice_get, get_or_from_slice_get}
 use Rattle.qe_base.specs.declared.value.Row.{Row}
 use Rattle.qe_base.specs.declared.value.Value.{Value}
 use Rattle.qe_base.specs.declared.schema.Table.{Table}
-use Rattle.qe_schema.specs.Schemas.{Schema}
-use Rattle.qe_tables.specs.Tables.{Tables, table_at, no_table}
+use Rattle.qe_base.specs.Schemas.{Schema}
+use Rattle.qe_schema.specs.Tables.{Tables, table_at, no_table}
 use Rattle.qe_mem.specs.RowMaps.{RowMap}
 use Rattle.qe_mem.specs.Kept.{nothing_kept, empty_for, kept_at, pair_of, tables_of, columns_of, columns_for, IsKeptFor, contents_of}
 use Rattle.qe_mem.specs.declared.tables.MemTable.{MemTable}

@@ -5,9 +5,9 @@ use Rattle.qe_base.specs.Values.{value_cmp, value_eq}
 use Rattle.qe_base.specs.ValueOrder.{value_eq_equivalence}
 use Rattle.qe_base.specs.declared.value.Row.{Row}
 use Rattle.qe_base.specs.declared.value.Value.{Value}
-use Rattle.qe_changes.specs.After.{pair_row}
-use Rattle.qe_tables.specs.Columns.{values_cmp, are_same, at_columns, value_at}
-use Rattle.qe_tables.specs.Pairs.{pair_cmp, is_pair, with_pair, without_pair, both_values}
+use Rattle.qe_view.specs.After.{pair_row}
+use Rattle.qe_schema.specs.Columns.{values_cmp, are_same, at_columns, value_at}
+use Rattle.qe_schema.specs.Pairs.{pair_cmp, is_pair, with_pair, without_pair, both_values}
 use Rattle.qe_mem.specs.RowMaps.{set_row}
 use Rattle.qe_mem.specs.Kept.{pair_of}
 

@@ -11,8 +11,8 @@ use Rattle.std.specs.BTreeMap.{insert_entry, is_at}
 use Rattle.qe_base.specs.Values.{value_cmp, row_cmp}
 use Rattle.qe_base.specs.ValueOrder.{row_cmp_total}
 use Rattle.qe_base.specs.declared.value.Row.{Row}
-use Rattle.qe_changes.specs.After.{is_wanted}
-use Rattle.qe_tables.specs.Columns.{Values, values_cmp, are_same, at_columns}
+use Rattle.qe_view.specs.After.{is_wanted}
+use Rattle.qe_schema.specs.Columns.{Values, values_cmp, are_same, at_columns}
 use Rattle.qe_mem.specs.RowMaps.{id_by, has_place, standing, rows_of, IsUnder, HaveIds, set_row}
 use Rattle.qe_mem.proofs.Placing.{between, listed, parted, same_found}
 

@@ -7,15 +7,15 @@ use Rattle.std.proofs.lemmas.Option.{slice_get_within}
 use Rattle.qe_base.specs.Values.{row_cmp}
 use Rattle.qe_base.specs.declared.value.Row.{Row}
 use Rattle.qe_base.specs.declared.schema.Table.{Table}
-use Rattle.qe_schema.specs.Schemas.{Schema}
-use Rattle.qe_tables.specs.Tables.{table_at, id_columns, is_model, is_link, is_model_table, is_link_table}
-use Rattle.qe_changes.specs.After.{after, after_all, pair_row}
-use Rattle.qe_changes.specs.Right.{is_right, are_right}
-use Rattle.qe_changes.specs.declared.Change.{Change}
-use Rattle.qe_changes.specs.declared.Change.TheVariants.{Remove, Put, Unlink, Link, Counter}
+use Rattle.qe_base.specs.Schemas.{Schema}
+use Rattle.qe_schema.specs.Tables.{table_at, id_columns, is_model, is_link, is_model_table, is_link_table}
+use Rattle.qe_view.specs.After.{after, after_all, pair_row}
+use Rattle.qe_view.specs.Right.{is_right, are_right}
+use Rattle.qe_view.specs.declared.changes.Change.{Change}
+use Rattle.qe_view.specs.declared.changes.Change.TheVariants.{Remove, Put, Unlink, Link, Counter}
 use Rattle.qe_mem.specs.RowMaps.{id_by, has_place, set_row, IsUnder}
-use Rattle.qe_mem.specs.Kept.{nothing_kept, kept_at, pair_of, tables_of, columns_of, IsKeptFor, contents_of, IsPairRow, ArePairs}
-use Rattle.qe_mem.specs.Steps.{step_of, with_row, with_pair_row, stepped, stepped_all, table_of, IsWithin, IsSound, HasRoom, IsReady}
+use Rattle.qe_mem.specs.Kept.{nothing_kept, kept_at, pair_of, tables_of, columns_of, IsKeptFor, contents_of, IsTwoValues, ArePairs}
+use Rattle.qe_mem.specs.Steps.{step_of, with_row, with_pair_row, stepped, stepped_all, table_of, IsWithin, HasItsId, HasRoom, TakesNoMemory}
 use Rattle.qe_mem.specs.declared.tables.MemTable.{MemTable}
 use Rattle.qe_mem.specs.declared.step.Step.{Step}
 use Rattle.qe_mem.specs.declared.step.Step.TheVariants as step
@@ -41,7 +41,7 @@ right_within schema (Counter table last) right = model_within schema.tables tabl
 within : (schema : Schema) (kept : List MemTable) (change : Change) → IsKeptFor schema.tables kept → is_right schema change ≡ true → IsWithin kept (step_of schema change)
 within schema kept change is_for right = subst (λ n. table_of (step_of schema change) < n) (sym (length_for schema kept is_for)) (right_within schema change right)
 
-sound : (schema : Schema) (kept : List MemTable) (change : Change) → IsKeptFor schema.tables kept → IsSound kept (step_of schema change)
+sound : (schema : Schema) (kept : List MemTable) (change : Change) → IsKeptFor schema.tables kept → HasItsId kept (step_of schema change)
 sound schema kept (Remove table id) is_for = tt
 sound schema kept (Put table row) is_for = ap (λ columns. row_cmp (id_by (id_columns (table_at schema table.0)) row) (id_by columns row)) (ap (λ c. c.0) (columns_at schema kept is_for table.0)) ∙ same_place (id_by (id_columns (table_at schema table.0)) row)
 sound schema kept (Unlink table a b) is_for = (tt, tt)
@@ -110,7 +110,7 @@ places_stepped (step.Last table last) kept = let t = kept_at kept table.0 in let
 pub within_same : (kept others : List MemTable) (one : Step) → map columns_of kept ≡ map columns_of others → IsWithin kept one → IsWithin others one
 within_same kept others one same is = subst (λ n. table_of one < n) (length_same columns_of kept others same) is
 
-pub sound_same : (kept others : List MemTable) (one : Step) → map columns_of kept ≡ map columns_of others → IsSound kept one → IsSound others one
+pub sound_same : (kept others : List MemTable) (one : Step) → map columns_of kept ≡ map columns_of others → HasItsId kept one → HasItsId others one
 sound_same kept others (step.Row table id row) same is = subst (λ (c : List ℕ × List ℕ). IsUnder c.0 id row) (at_same columns_of kept others same table.0) is
 sound_same kept others (step.Pair table id pair) same is = (subst (λ (c : List ℕ × List ℕ). IsUnder c.1 id pair) (at_same columns_of kept others same table.0) is.0, is.1)
 sound_same kept others (step.Last table last) same is = tt
@@ -121,14 +121,14 @@ room_same kept others (step.Pair table id pair) same is = subst (λ (p : List Ro
 room_same kept others (step.Last table last) same is = tt
 
 -- a step leaves others ready
-ready_stepped : (one other : Step) (kept : List MemTable) → IsReady kept other → IsReady (stepped one kept) other
+ready_stepped : (one other : Step) (kept : List MemTable) → TakesNoMemory kept other → TakesNoMemory (stepped one kept) other
 ready_stepped one other kept ready = record {
   within = within_same kept (stepped one kept) other (sym (columns_stepped one kept)) ready.within;
   sound = sound_same kept (stepped one kept) other (sym (columns_stepped one kept)) ready.sound;
   room = room_same kept (stepped one kept) other (sym (places_stepped one kept)) ready.room;
 }
 
-pub all_ready_stepped : (one : Step) (steps : List Step) (kept : List MemTable) → AllByRecursion (IsReady kept) steps → AllByRecursion (IsReady (stepped one kept)) steps
+pub all_ready_stepped : (one : Step) (steps : List Step) (kept : List MemTable) → AllByRecursion (TakesNoMemory kept) steps → AllByRecursion (TakesNoMemory (stepped one kept)) steps
 all_ready_stepped one [] kept ready = tt
 all_ready_stepped one (other ∷ steps) kept ready = (ready_stepped one other kept ready.0, all_ready_stepped one steps kept ready.1)
 
@@ -163,14 +163,14 @@ each_within schema (change ∷ changes) kept is_for right =
     let parts = and_parts (is_right schema change) (list_all (is_right schema) changes) right in
     (within schema kept change is_for parts.0, each_within schema changes kept is_for parts.1)
 
-each_sound : (schema : Schema) (changes : List Change) (kept : List MemTable) → IsKeptFor schema.tables kept → AllByRecursion (IsSound kept) (map (step_of schema) changes)
+each_sound : (schema : Schema) (changes : List Change) (kept : List MemTable) → IsKeptFor schema.tables kept → AllByRecursion (HasItsId kept) (map (step_of schema) changes)
 each_sound schema [] kept is_for = tt
 each_sound schema (change ∷ changes) kept is_for = (sound schema kept change is_for, each_sound schema changes kept is_for)
 
 pub all_within : (schema : Schema) (changes : List Change) (kept : List MemTable) → IsKeptFor schema.tables kept → are_right schema changes ≡ true → All (IsWithin kept) (map (step_of schema) changes)
 all_within schema changes kept is_for right = all_pointwise _ _ (each_within schema changes kept is_for (and_parts (list_all (is_right schema) changes) _ right).0)
 
-pub all_sound : (schema : Schema) (changes : List Change) (kept : List MemTable) → IsKeptFor schema.tables kept → All (IsSound kept) (map (step_of schema) changes)
+pub all_sound : (schema : Schema) (changes : List Change) (kept : List MemTable) → IsKeptFor schema.tables kept → All (HasItsId kept) (map (step_of schema) changes)
 all_sound schema changes kept is_for = all_pointwise _ _ (each_sound schema changes kept is_for)
 
 -- pairs stay pairs
@@ -195,30 +195,30 @@ all_at P [] at d all one = one
 all_at P (x ∷ xs) zero d all one = all.0
 all_at P (x ∷ xs) (suc at) d all one = all_at P xs at d all.1 one
 
-set_pairs : (columns : List ℕ) (id : Row) (pair : Option Row) (rows : List Row) → AllByRecursion IsPairRow rows → IfSome pair IsPairRow → AllByRecursion IsPairRow (set_row columns id pair rows)
-set_pairs columns id None rows all one = all_filter IsPairRow _ rows all
-set_pairs columns id (Some row) rows all one = all_append IsPairRow _ _ (all_filter IsPairRow _ rows all) (one, all_filter IsPairRow _ rows all)
+set_pairs : (columns : List ℕ) (id : Row) (pair : Option Row) (rows : List Row) → AllByRecursion IsTwoValues rows → IfSome pair IsTwoValues → AllByRecursion IsTwoValues (set_row columns id pair rows)
+set_pairs columns id None rows all one = all_filter IsTwoValues _ rows all
+set_pairs columns id (Some row) rows all one = all_append IsTwoValues _ _ (all_filter IsTwoValues _ rows all) (one, all_filter IsTwoValues _ rows all)
 
 abbrev pub HasPairs : MemTable → Type 0
-HasPairs table = AllByRecursion IsPairRow table.pairs.rows
+HasPairs table = AllByRecursion IsTwoValues table.pairs.rows
 
-pairs_stepped : (one : Step) (kept : List MemTable) → IsSound kept one → ArePairs kept → ArePairs (stepped one kept)
+pairs_stepped : (one : Step) (kept : List MemTable) → HasItsId kept one → ArePairs kept → ArePairs (stepped one kept)
 pairs_stepped (step.Row table id row) kept is all = all_set HasPairs kept table.0 (with_row id row (kept_at kept table.0)) all (all_at HasPairs kept table.0 (nothing_kept []) all tt)
 pairs_stepped (step.Pair table id pair) kept is all = all_set HasPairs kept table.0 (with_pair_row id pair (kept_at kept table.0)) all (set_pairs _ id pair _ (all_at HasPairs kept table.0 (nothing_kept []) all tt) is.1)
 pairs_stepped (step.Last table last) kept is all = let t = kept_at kept table.0 in let now : MemTable = record t { last = int_max last t.last } in all_set HasPairs kept table.0 now all (all_at HasPairs kept table.0 (nothing_kept []) all tt)
 
-pub pairs_stepped_all : (steps : List Step) (kept : List MemTable) → AllByRecursion (IsReady kept) steps → ArePairs kept → ArePairs (stepped_all steps kept)
+pub pairs_stepped_all : (steps : List Step) (kept : List MemTable) → AllByRecursion (TakesNoMemory kept) steps → ArePairs kept → ArePairs (stepped_all steps kept)
 pairs_stepped_all [] kept ready all = all
 pairs_stepped_all (one ∷ steps) kept ready all = pairs_stepped_all steps (stepped one kept) (all_ready_stepped one steps kept ready.1) (pairs_stepped one kept ready.0.sound all)
 
 abbrev pairs_in : MemTable → List Row
 pairs_in table = table.pairs.rows
 
-by_rows : (kept : List MemTable) → ArePairs kept → AllByRecursion (AllByRecursion IsPairRow) (map pairs_in kept)
+by_rows : (kept : List MemTable) → ArePairs kept → AllByRecursion (AllByRecursion IsTwoValues) (map pairs_in kept)
 by_rows [] all = tt
 by_rows (table ∷ kept) all = (all.0, by_rows kept all.1)
 
-from_rows : (kept : List MemTable) → AllByRecursion (AllByRecursion IsPairRow) (map pairs_in kept) → ArePairs kept
+from_rows : (kept : List MemTable) → AllByRecursion (AllByRecursion IsTwoValues) (map pairs_in kept) → ArePairs kept
 from_rows [] all = tt
 from_rows (table ∷ kept) all = (all.0, from_rows kept all.1)
 
@@ -228,9 +228,9 @@ pairs_from_contents (table ∷ kept) = ap (λ l. table.pairs.rows ∷ l) (pairs_
 
 pub pairs_by_contents : (kept others : List MemTable) → map contents_of kept ≡ map contents_of others → ArePairs kept → ArePairs others
 pairs_by_contents kept others same all =
-    from_rows others (subst (AllByRecursion (AllByRecursion IsPairRow)) (sym (pairs_from_contents kept) ∙ ap (map (λ c. c.1)) same ∙ pairs_from_contents others) (by_rows kept all))
+    from_rows others (subst (AllByRecursion (AllByRecursion IsTwoValues)) (sym (pairs_from_contents kept) ∙ ap (map (λ c. c.1)) same ∙ pairs_from_contents others) (by_rows kept all))
 
 -- rows of pairs are the pairs' rows
-pub pair_rows : (rows : List Row) → AllByRecursion IsPairRow rows → map pair_row (map pair_of rows) ≡ rows
+pub pair_rows : (rows : List Row) → AllByRecursion IsTwoValues rows → map pair_row (map pair_of rows) ≡ rows
 pair_rows [] all = refl
 pair_rows (row ∷ rows) all = λ i. all.0 i ∷ pair_rows rows all.1 i

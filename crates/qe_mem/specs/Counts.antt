@@ -1,7 +1,7 @@
 -- The calls of a connector in memory, of which some are to fail.
 use Rattle.std.specs.Prelude.{ℕ, ◌+◌, ◌-◌, ◌^◌, Bool, ◌&&◌, ◌==◌, nat_lt, List, if◌then◌else◌}
 use Rattle.std.specs.List.{list_any}
-use Rattle.qe_changes.specs.Calls.{Calls, more}
+use Rattle.qe_view.specs.Calls.{CallCounts, more}
 use Rattle.qe_mem.specs.declared.counts.Counts.{Counts}
 use Rattle.qe_mem.specs.declared.counts.FailAt.{FailAt}
 use Rattle.qe_mem.specs.declared.counts.CallKind.{CallKind}
@@ -53,5 +53,5 @@ abbrev pub after_call : CallKind → Counts → Counts
 after_call call counts = if fails_next call counts then with_fault (with_call call counts) else with_call call counts
 
 -- the calls that the connector tells
-abbrev pub calls_of : Counts → Calls
+abbrev pub calls_of : Counts → CallCounts
 calls_of counts = record { loads = counts.loads; scans = counts.scans; lasts = counts.lasts; applies = counts.applies }

@@ -1,12 +1,12 @@
 -- The tables of a schema as they are kept in memory.
 use Rattle.std.specs.Prelude.{◌≡◌, ℕ, ℤ, pos, List, [], ◌∷◌, map, get_or}
 use Rattle.std.specs.List.{AllByRecursion}
-use Rattle.qe_changes.specs.After.{pair_row}
+use Rattle.qe_view.specs.After.{pair_row}
 use Rattle.qe_base.specs.declared.value.Row.{Row}
 use Rattle.qe_base.specs.declared.value.Value.{Value}
 use Rattle.qe_base.specs.declared.schema.Table.{Table}
-use Rattle.qe_tables.specs.Columns.{value_at}
-use Rattle.qe_tables.specs.Tables.{Tables, id_columns}
+use Rattle.qe_schema.specs.Columns.{value_at}
+use Rattle.qe_schema.specs.Tables.{Tables, id_columns}
 use Rattle.qe_mem.specs.RowMaps.{no_places}
 use Rattle.qe_mem.specs.declared.tables.MemTable.{MemTable}
 
@@ -46,9 +46,9 @@ abbrev pub contents_of : MemTable → List Row × List Row × ℤ
 contents_of table = (table.rows.rows, table.pairs.rows, table.last)
 
 -- the row is one of two values
-abbrev pub IsPairRow : Row → Type 0
-IsPairRow row = pair_row (pair_of row) ≡ row
+abbrev pub IsTwoValues : Row → Type 0
+IsTwoValues row = pair_row (pair_of row) ≡ row
 
 -- the rows of link tables are pairs
 abbrev pub ArePairs : List MemTable → Type 0
-ArePairs kept = AllByRecursion (λ table. AllByRecursion IsPairRow table.pairs.rows) kept
+ArePairs kept = AllByRecursion (λ table. AllByRecursion IsTwoValues table.pairs.rows) kept

@@ -1,7 +1,7 @@
 -- What a connector in memory tells.
 use Rattle.std.specs.Prelude.{ℕ, Bool, List, Option, Some, None, IfSome}
-use Rattle.qe_changes.specs.Calls.{Calls}
-use Rattle.qe_tables.specs.Tables.{Tables}
+use Rattle.qe_view.specs.Calls.{CallCounts}
+use Rattle.qe_schema.specs.Tables.{Tables}
 use Rattle.qe_view.specs.Attached.{Kept, FitLayout}
 use Rattle.qe_view.specs.Layouts.{Layout}
 use Rattle.qe_mem.specs.Counts.{calls_of, may_fail}
@@ -45,5 +45,5 @@ mem_misfits connector = 0
 abbrev pub mem_may_fail : Mem → Bool
 mem_may_fail connector = may_fail connector.counts
 
-abbrev pub mem_calls : Mem → Calls
+abbrev pub mem_calls : Mem → CallCounts
 mem_calls connector = calls_of connector.counts

@@ -5,7 +5,7 @@ use Rattle.std.specs.Ordering.{is_eq, is_lt, is_gt}
 use Rattle.std.specs.declared.cmp.Ordering.TheVariants.{Equal}
 use Rattle.qe_base.specs.Values.{row_cmp}
 use Rattle.qe_base.specs.declared.value.Row.{Row}
-use Rattle.qe_tables.specs.Columns.{values_cmp, are_same, at_columns}
+use Rattle.qe_schema.specs.Columns.{values_cmp, are_same, at_columns}
 
 -- The columns of the ids, the ids that have a place, and the rows that are there, in the order of their ids.
 pub record RowMap : Type 0 where

@@ -2,12 +2,12 @@
 use Rattle.std.specs.Prelude.{◌≡◌, ◌<◌, ℕ, List, [], ◌∷◌, true, Option, Some, None, IfSome, length, slice_set}
 use Rattle.std.specs.Int.{int_max}
 use Rattle.qe_base.specs.declared.value.Row.{Row}
-use Rattle.qe_changes.specs.After.{pair_row}
-use Rattle.qe_changes.specs.declared.Change.{Change}
-use Rattle.qe_changes.specs.declared.Change.TheVariants.{Remove, Put, Unlink, Link, Counter}
-use Rattle.qe_schema.specs.Schemas.{Schema}
-use Rattle.qe_tables.specs.Tables.{table_at, id_columns}
-use Rattle.qe_mem.specs.Kept.{kept_at, IsPairRow}
+use Rattle.qe_view.specs.After.{pair_row}
+use Rattle.qe_view.specs.declared.changes.Change.{Change}
+use Rattle.qe_view.specs.declared.changes.Change.TheVariants.{Remove, Put, Unlink, Link, Counter}
+use Rattle.qe_base.specs.Schemas.{Schema}
+use Rattle.qe_schema.specs.Tables.{table_at, id_columns}
+use Rattle.qe_mem.specs.Kept.{kept_at, IsTwoValues}
 use Rattle.qe_mem.specs.RowMaps.{id_by, has_place, set_row, IsUnder}
 use Rattle.qe_mem.specs.declared.tables.MemTable.{MemTable}
 use Rattle.qe_mem.specs.declared.step.Step.{Step}
@@ -49,10 +49,10 @@ abbrev pub IsWithin : List MemTable → Step → Type 0
 IsWithin kept one = table_of one < length kept
 
 -- the step's row has the step's id, and is a pair where it is to be one
-abbrev pub IsSound : List MemTable → Step → Type 0
-IsSound kept (step.Row table id row) = IsUnder (kept_at kept table.0).rows.columns id row
-IsSound kept (step.Pair table id pair) = IsUnder (kept_at kept table.0).pairs.columns id pair × IfSome pair IsPairRow
-IsSound kept (step.Last table last) = Unit {0}
+abbrev pub HasItsId : List MemTable → Step → Type 0
+HasItsId kept (step.Row table id row) = IsUnder (kept_at kept table.0).rows.columns id row
+HasItsId kept (step.Pair table id pair) = IsUnder (kept_at kept table.0).pairs.columns id pair × IfSome pair IsTwoValues
+HasItsId kept (step.Last table last) = Unit {0}
 
 -- the step's id has a place
 abbrev pub HasRoom : List MemTable → Step → Type 0
@@ -61,7 +61,7 @@ HasRoom kept (step.Pair table id pair) = has_place id (kept_at kept table.0).pai
 HasRoom kept (step.Last table last) = Unit {0}
 
 -- the step takes no memory
-pub record IsReady (kept : List MemTable) (one : Step) : Type 0 where
+pub record TakesNoMemory (kept : List MemTable) (one : Step) : Type 0 where
   pub within : IsWithin kept one
-  pub sound : IsSound kept one
+  pub sound : HasItsId kept one
   pub room : HasRoom kept one

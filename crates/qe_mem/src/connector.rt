@@ -2,9 +2,8 @@
 use crate::counts::{CallKind, Counts, FailAt};
 use crate::tables::MemTables;
 use qe_base::{Row, Rows, TableId};
-use qe_changes::{AttachFault, Change, ConnFault};
 use qe_text::{Items, Memory};
-use qe_view::{Connector, Layout};
+use qe_view::{AttachFault, Change, ConnFault, Connector, Layout};
 use std::alloc::Global;
 use std::marker::Model;
 
@@ -54,9 +53,9 @@ impl MemConnector {
 impl Connector for MemConnector {
     ghost use Rattle.std.specs.Prelude.{◌≡◌, ◌↔◌, None, false, true, is_some, not, option_map, OnOk, OnErr, IfErr, IsErrOf, IfSome};
     ghost use Rattle.qe_base.specs.Causes.{HasCause};
-    ghost use Rattle.qe_changes.specs.After.{after_all, rows_in, rows_at};
-    ghost use Rattle.qe_changes.specs.Answers.{GivesRows, RowsFit, GivesLast, NamesColumn, IsMisfit, HasCauses};
-    ghost use Rattle.qe_changes.specs.Calls.{with_load, with_scan, with_last, with_apply};
+    ghost use Rattle.qe_view.specs.After.{after_all, rows_in, rows_at};
+    ghost use Rattle.qe_view.specs.Answers.{GivesRows, RowsFit, GivesLast, NamesColumn, IsMisfit, HasCauses};
+    ghost use Rattle.qe_view.specs.Calls.{with_load, with_scan, with_last, with_apply};
     ghost use Rattle.qe_view.specs.Attached.{Attaches, FitLayout, HasTable, CanLoad, CanApply, OfShapes, shapes_of};
     ghost use Rattle.qe_mem.specs.Counts.{fails_next, after_call};
     ghost use Rattle.qe_mem.specs.declared.counts.CallKind.TheVariants as call;

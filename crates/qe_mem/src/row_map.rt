@@ -4,12 +4,12 @@ ghost use Rattle.std.specs.BTreeMap.{is_at};
 ghost use Rattle.std.specs.Map.{keys_of, lookup};
 ghost use Rattle.qe_base.specs.Values.{row_cmp};
 ghost use Rattle.qe_base.specs.declared.value.Row.{Row as RowSeen};
-ghost use Rattle.qe_changes.specs.After.{is_wanted};
+ghost use Rattle.qe_view.specs.After.{is_wanted};
 ghost use Rattle.qe_mem.specs.RowMaps.{no_places, has_place, rows_of, set_row, IsUnder, HaveIds};
 
 use qe_base::Row;
-use qe_rows::is_wanted;
 use qe_text::{Items, Memory};
+use qe_view::is_wanted;
 use std::alloc::Global;
 use std::collections::BTreeMap;
 use std::marker::Model;

@@ -1,21 +1,19 @@
 //! The tables of a schema.
 ghost use Rattle.std.specs.Prelude.{◌≡◌, [], ◌++◌, true, IfOk, IfSome, IfNone, OnOk, OnErr, map, filter};
 ghost use Rattle.std.specs.List.{All, AllByRecursion};
-ghost use Rattle.qe_changes.specs.After.{after_all, is_wanted, rows_in, rows_at};
-ghost use Rattle.qe_changes.specs.Right.{are_right};
-ghost use Rattle.qe_tables.specs.Tables.{table_at, id_columns as columns_of_id};
+ghost use Rattle.qe_view.specs.After.{after_all, is_wanted, rows_in, rows_at};
+ghost use Rattle.qe_view.specs.Right.{are_right};
+ghost use Rattle.qe_schema.specs.Tables.{table_at, id_columns as columns_of_id};
 ghost use Rattle.qe_view.specs.Attached.{shapes_of};
 ghost use Rattle.qe_mem.specs.Kept.{nothing_kept, empty_for, kept_at, tables_of, columns_of, contents_of, IsKeptFor, ArePairs};
-ghost use Rattle.qe_mem.specs.Steps.{step_of, stepped, stepped_all, IsWithin, IsSound, IsReady};
+ghost use Rattle.qe_mem.specs.Steps.{step_of, stepped, stepped_all, IsWithin, HasItsId, TakesNoMemory};
 ghost use Rattle.qe_mem.specs.declared.step.Step.{Step as StepSeen};
 
 use crate::row_map::RowMap;
 use crate::step::Step;
 use qe_base::{Row, Table, TableId};
-use qe_changes::Change;
-use qe_rows::{id_row, pair_row};
 use qe_text::{Items, Memory};
-use qe_view::Layout;
+use qe_view::{Change, Layout, id_row, pair_row};
 use std::alloc::Global;
 use std::marker::Model;
 
@@ -196,11 +194,11 @@ impl MemTables {
     /// Gives the id of a step a place.
     fn reserve(&mut self, step: &Step) -> Result<(), Memory>
         requires within { IsWithin self.old step.now }
-        requires sound { IsSound self.old step.now }
+        requires sound { HasItsId self.old step.now }
         ensures contents { map contents_of self.new ≡ map contents_of self.old }
         ensures columns { map columns_of self.new ≡ map columns_of self.old }
-        ensures ready { OnOk result (IsReady self.new step.now) }
-        ensures kept { (other : StepSeen) → IsReady self.old other → IsReady self.new other }
+        ensures ready { OnOk result (TakesNoMemory self.new step.now) }
+        ensures kept { (other : StepSeen) → TakesNoMemory self.old other → TakesNoMemory self.new other }
     {
         match step {
             Step::Row { table, id, .. } => self.tables[table.0 as usize].rows.reserve(id),
@@ -212,10 +210,10 @@ impl MemTables {
     /// Gives the ids of steps places.
     fn reserve_all(&mut self, steps: &[Step]) -> Result<(), Memory>
         requires within { All (IsWithin self.old) steps.now }
-        requires sound { All (IsSound self.old) steps.now }
+        requires sound { All (HasItsId self.old) steps.now }
         ensures contents { map contents_of self.new ≡ map contents_of self.old }
         ensures columns { map columns_of self.new ≡ map columns_of self.old }
-        ensures ready { OnOk result (All (IsReady self.new) steps.now) }
+        ensures ready { OnOk result (All (TakesNoMemory self.new) steps.now) }
     {
         for step in steps {
             self.reserve(step)?;
@@ -255,7 +253,7 @@ impl MemTables {
 
     /// Makes a step that is ready.
     fn set(&mut self, step: Step)
-        requires { IsReady self.old step }
+        requires { TakesNoMemory self.old step }
         ensures { self.new ≡ stepped step self.old }
     {
         match step {
@@ -270,7 +268,7 @@ impl MemTables {
 
     /// Makes steps that are ready.
     fn set_all(&mut self, steps: Vec<Step>)
-        requires { AllByRecursion (IsReady self.old) steps.items }
+        requires { AllByRecursion (TakesNoMemory self.old) steps.items }
         ensures { self.new ≡ stepped_all steps.items self.old }
     {
         for step in steps {

@@ -5,21 +5,21 @@ use Rattle.std.specs.List.{list_any, list_all}
 use Rattle.std.proofs.lemmas.Bool.{and_from, and_parts, or_parts, lt-ltb}
 use Rattle.std.proofs.lemmas.List.{append-nil}
 use Rattle.std.proofs.lemmas.Option.{slice_get_within}
-use Rattle.psl_rules.specs.Updates.{In}
+use Rattle.qe_text.specs.Lists.{In}
 use Rattle.qe_base.specs.declared.schema.Choice.{Choice}
 use Rattle.qe_base.specs.declared.schema.Column.{Column}
 use Rattle.qe_base.specs.declared.schema.Key.{Key}
 use Rattle.qe_base.specs.declared.schema.Table.{Table}
 use Rattle.qe_base.specs.declared.value.Row.{Row}
 use Rattle.qe_base.specs.declared.value.Value.TheVariants.{Null}
-use Rattle.qe_changes.specs.After.{is_wanted, pair_row, rows_at, rows_in}
-use Rattle.qe_changes.specs.Right.{is_value_of, are_values_of, has_table, can_load, is_row_of}
-use Rattle.qe_put_laws.proofs.Lists.{all_pass}
-use Rattle.qe_schema.specs.Kept.{KeyStands}
-use Rattle.qe_schema.specs.Schemas.{Schema}
-use Rattle.qe_tables.specs.Columns.{Values, is_null, has_null, are_same, value_at, at_columns, holds}
-use Rattle.qe_tables.specs.Fits.{FitsSchema, fits_column, fit_columns}
-use Rattle.qe_tables.specs.Tables.{Tables, table_at, is_model, is_model_table, is_link_table}
+use Rattle.qe_view.specs.After.{is_wanted, pair_row, rows_at, rows_in}
+use Rattle.qe_view.specs.Right.{is_value_of, are_values_of, has_table, can_load, is_row_of}
+use Rattle.qe_row_laws.proofs.Lists.{all_pass}
+use Rattle.qe_schema.specs.Keys.{KeyStands}
+use Rattle.qe_base.specs.Schemas.{Schema}
+use Rattle.qe_schema.specs.Columns.{Values, is_null, has_null, are_same, value_at, at_columns, holds}
+use Rattle.qe_schema.specs.Fits.{FitsSchema, fits_column, fit_columns}
+use Rattle.qe_schema.specs.Tables.{Tables, table_at, is_model, is_model_table, is_link_table}
 use Rattle.qe_ops.specs.Puts.{row_having}
 
 -- ---- models

@@ -1,9 +1,9 @@
 -- What several calls of a view leave, one after another.
 use Rattle.std.proofs.Common.{◌≡◌, ℕ, ◌+◌, ◌-◌, ◌^◌, ◌≤◌, Bool, false, not, Option, None, min, ◌∙◌, arith}
 use Rattle.qe_base.specs.Causes.{HasCause}
-use Rattle.qe_changes.specs.declared.ConnFault.{ConnFault}
-use Rattle.qe_schema.specs.Schemas.{Schema}
-use Rattle.qe_ops.specs.Leaves.{Counts, Leaves}
+use Rattle.qe_view.specs.declared.changes.ConnFault.{ConnFault}
+use Rattle.qe_base.specs.Schemas.{Schema}
+use Rattle.qe_ops.specs.Leaves.{ViewCounts, Leaves}
 
 -- a count that rose has risen since any time before
 rose_since : (cap first before now : ℕ) → first ≤ before → min (before + 1) cap ≤ now → min (first + 1) cap ≤ now
@@ -17,7 +17,7 @@ cause_since may_fail later_may first before now none failed one sure other = rec
 }
 
 -- calls that ended without a fault, and those after them
-pub leaves_then : (schema : Schema) (tells : Bool) (before middle after : Counts) (fault : Option ConnFault) → Leaves schema tells before middle None → Leaves schema tells middle after fault → Leaves schema tells before after fault
+pub leaves_then : (schema : Schema) (tells : Bool) (before middle after : ViewCounts) (fault : Option ConnFault) → Leaves schema tells before middle None → Leaves schema tells middle after fault → Leaves schema tells before after fault
 leaves_then schema tells before middle after fault one other = record {
   failed = cause_since before.may_fail middle.may_fail before.faults middle.faults after.faults _ _ one.failed one.sure other.failed;
   misfit = cause_since (not tells) (not tells) before.misfits middle.misfits after.misfits _ _ one.misfit (λ is. is) other.misfit;

@@ -1,6 +1,9 @@
 pub mod Carrying
+pub mod CreateLaws
+pub mod FindLaws
 pub mod Fitting
 pub mod Keyed
 pub mod Leaving
+pub mod NewRows
 pub mod Putting
 pub mod Versions

@@ -10,19 +10,19 @@ use Rattle.qe_base.specs.declared.value.Row.{Row}
 use Rattle.qe_base.specs.declared.value.TableId.{TableId}
 use Rattle.qe_base.specs.declared.value.Value.{Value}
 use Rattle.qe_base.specs.declared.value.Value.TheVariants as value
-use Rattle.qe_changes.specs.After.{after}
-use Rattle.qe_changes.specs.Right.{is_row_of}
-use Rattle.qe_changes.specs.declared.Change.TheVariants.{Put, Counter}
-use Rattle.qe_put_laws.proofs.Lists.{all_pass}
-use Rattle.qe_put_laws.proofs.Puts.{at_most, all_within, greatest_last, new_rows_fit}
+use Rattle.qe_view.specs.After.{after}
+use Rattle.qe_view.specs.Right.{is_row_of}
+use Rattle.qe_view.specs.declared.changes.Change.TheVariants.{Put, Counter}
+use Rattle.qe_row_laws.proofs.Lists.{all_pass}
+use Rattle.qe_row_laws.proofs.Puts.{at_most, all_within, greatest_last, new_rows_fit}
 use Rattle.qe_schema.proofs.Members.{passes}
-use Rattle.qe_schema.specs.Schemas.{Schema}
-use Rattle.qe_tables.specs.Columns.{value_at}
-use Rattle.qe_tables.specs.Fits.{FitsSchema, Counts, at_number, counting, fit_columns, is_within}
-use Rattle.qe_tables.specs.Put.{broken_key, put_of, put_unless, raised, raised_at, raised_to}
-use Rattle.qe_tables.specs.Tables.{Tables, table_at, is_model, id_columns, with_last}
+use Rattle.qe_base.specs.Schemas.{Schema}
+use Rattle.qe_schema.specs.Columns.{value_at}
+use Rattle.qe_schema.specs.Fits.{FitsSchema, Counts, at_number, counting, fit_columns, is_within}
+use Rattle.qe_schema.specs.Put.{broken_key, put_of, put_unless, raised, raised_at, raised_to}
+use Rattle.qe_schema.specs.Tables.{Tables, table_at, is_model, id_columns, with_last}
 use Rattle.qe_view.specs.Versions.{Versions, LeadsToFit, changed}
-use Rattle.qe_ops.specs.Leaves.{CanGoBack, Reaches}
+use Rattle.qe_ops.specs.Leaves.{CanGoBack, ChangesTo}
 use Rattle.qe_ops.specs.Puts.{IsUnheld, number_at, placed, raised_for, whole_number}
 use Rattle.qe_ops.proofs.Versions.{back_to_itself, back_over, reaches_over}
 
@@ -80,9 +80,9 @@ each_told None P each = tt
 each_told (Some tables) P each = each tables
 
 -- a row without a number
-pub no_number : (versions after : Versions) (schema : Schema) (table : ℕ) (model : Table) (row : Row) → model ≡ table_at schema table → own_number model row ≡ None → after ≡ versions → Reaches (raised_for schema table row) versions after
+pub no_number : (versions after : Versions) (schema : Schema) (table : ℕ) (model : Table) (row : Row) → model ≡ table_at schema table → own_number model row ≡ None → after ≡ versions → ChangesTo (raised_for schema table row) versions after
 no_number versions after schema table model row model_is none same =
-    subst (Reaches (raised_for schema table row) versions) (sym same) (record {
+    subst (ChangesTo (raised_for schema table row) versions) (sym same) (record {
       now = unraised versions.now schema table row
           (each_told versions.now _ (λ tables. raised_with (table_at schema table) row (tables.last table) None (subst (λ (m : Table). own_number m row ≡ None) model_is none)));
       back = back_to_itself versions;
@@ -137,7 +137,7 @@ counter_leads told asked schema table model row number same is fits model_is own
 
 -- a row with a greater number
 pub high_number : (versions middle after_it : Versions) (asked schema : Schema) (table : TableId) (model : Table) (row : Row) (number same : ℤ) → asked ≡ schema → model ≡ table_at schema table.0 → own_number model row ≡ Some number → same ≡ number → middle ≡ versions
-    → after_it ≡ changed (after asked (Counter table same)) middle → Reaches (raised_for schema table.0 row) versions after_it
+    → after_it ≡ changed (after asked (Counter table same)) middle → ChangesTo (raised_for schema table.0 row) versions after_it
 high_number versions middle after_it asked schema table model row number same is model_is own same_is middle_is made =
     let own_here : own_number (table_at schema table.0) row ≡ Some number = subst (λ (m : Table). own_number m row ≡ Some number) model_is own in
     let raised_so : (tables : Tables) → after asked (Counter table same) tables ≡ raised_for schema table.0 row tables =
@@ -166,7 +166,7 @@ put_leads told middle first asked schema table row first_is asked_is fits right 
     subst (λ (s : Schema). LeadsToFit s (after s (Put table row)) middle) (sym asked_is)
     (subst (LeadsToFit schema (after schema (Put table row))) (sym middle_is) (put_fits told schema table row (subst (λ (s : Schema). IfSome told (FitsSchema s)) first_is fits) right unheld))
 
-pub put_reaches : (versions middle after_it : Versions) (asked schema : Schema) (table : TableId) (row : Row) → asked ≡ schema → Reaches (raised_for schema table.0 row) versions middle → after_it ≡ changed (after asked (Put table row)) middle
-    → Reaches (placed schema table.0 row) versions after_it
+pub put_reaches : (versions middle after_it : Versions) (asked schema : Schema) (table : TableId) (row : Row) → asked ≡ schema → ChangesTo (raised_for schema table.0 row) versions middle → after_it ≡ changed (after asked (Put table row)) middle
+    → ChangesTo (placed schema table.0 row) versions after_it
 put_reaches versions middle after_it asked schema table row asked_is reached made =
     reaches_over (raised_for schema table.0 row) (after schema (Put table row)) (placed schema table.0 row) versions middle after_it (λ tables. refl) reached (subst (λ (s : Schema). after_it ≡ changed (after s (Put table row)) middle) asked_is made)

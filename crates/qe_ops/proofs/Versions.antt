@@ -3,9 +3,9 @@ use Rattle.std.proofs.Common.{◌≡◌, ℕ, zero, suc, ◌+◌, ◌≤◌, Lis
 use Rattle.std.specs.Prelude.{slice_get, option_map}
 use Rattle.std.proofs.Math.ListN.{length-append}
 use Rattle.std.proofs.lemmas.List.{take-append-le}
-use Rattle.qe_tables.specs.Tables.{Tables}
+use Rattle.qe_schema.specs.Tables.{Tables}
 use Rattle.qe_view.specs.Versions.{Versions, changed}
-use Rattle.qe_ops.specs.Leaves.{CanGoBack, Reaches}
+use Rattle.qe_ops.specs.Leaves.{CanGoBack, ChangesTo}
 
 take_whole : {A : Type 0} (xs : List A) → take (length xs) xs ≡ xs
 take_whole [] = refl
@@ -40,7 +40,7 @@ then_mapped first second both None is = refl
 then_mapped first second both (Some tables) is = ap Some (is tables)
 
 -- what was reached, and one change more
-pub reaches_over : (first second both : Tables → Tables) (before middle after : Versions) → ((tables : Tables) → second (first tables) ≡ both tables) → Reaches first before middle → after ≡ changed second middle → Reaches both before after
+pub reaches_over : (first second both : Tables → Tables) (before middle after : Versions) → ((tables : Tables) → second (first tables) ≡ both tables) → ChangesTo first before middle → after ≡ changed second middle → ChangesTo both before after
 reaches_over first second both before middle after is reached made = record {
   now = ap (λ (all : Versions). all.now) made ∙ ap (option_map second) reached.now ∙ then_mapped first second both before.now is;
   back = subst (CanGoBack before) (sym made) (back_over second before middle reached.back);
@@ -78,7 +78,7 @@ back_then before middle after one other = record {
         ∙ take_one_more (length middle.past) (after.past ++ after.now ∷ []) middle.now other.now
 
 -- one change of the tables, and another
-pub reaches_then : (first second : Tables → Tables) (before middle after : Versions) → Reaches first before middle → Reaches second middle after → Reaches (λ tables. second (first tables)) before after
+pub reaches_then : (first second : Tables → Tables) (before middle after : Versions) → ChangesTo first before middle → ChangesTo second middle after → ChangesTo (λ tables. second (first tables)) before after
 reaches_then first second before middle after one other = record {
   now = other.now ∙ ap (option_map second) one.now ∙ then_mapped first second (λ tables. second (first tables)) before.now (λ tables. refl);
   back = back_then before middle after one.back other.back;

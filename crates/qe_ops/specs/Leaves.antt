@@ -1,38 +1,38 @@
 -- What calls leave of a view: its counts, the cause of a refusal, and what can be got back.
 use Rattle.std.specs.Prelude.{◌≡◌, ℕ, ◌≤◌, Bool, true, false, not, [], ◌∷◌, ◌++◌, length, take, slice_get, Option, Some, None, option_map, Result, Ok, Err, OnOk, OnErr, IfSome, IsSomeAnd}
 use Rattle.qe_base.specs.Causes.{HasCause}
-use Rattle.qe_changes.specs.Answers.{NamesColumn, is_misfit}
-use Rattle.qe_changes.specs.Calls.{Calls}
-use Rattle.qe_changes.specs.declared.ConnFault.{ConnFault}
-use Rattle.qe_changes.specs.declared.ConnFault.TheVariants.{Failed}
-use Rattle.qe_schema.specs.Schemas.{Schema}
-use Rattle.qe_tables.specs.Tables.{Tables}
+use Rattle.qe_view.specs.Answers.{NamesColumn, is_misfit}
+use Rattle.qe_view.specs.Calls.{CallCounts}
+use Rattle.qe_view.specs.declared.changes.ConnFault.{ConnFault}
+use Rattle.qe_view.specs.declared.changes.ConnFault.TheVariants.{Failed}
+use Rattle.qe_base.specs.Schemas.{Schema}
+use Rattle.qe_schema.specs.Tables.{Tables}
 use Rattle.qe_view.specs.Versions.{Versions}
 
 -- ---- counts and causes
 
 -- the faults and misfits that a view counts, the changes it had applied, and whether a call may fail
-pub record Counts : Type 0 where
+pub record ViewCounts : Type 0 where
   pub faults : ℕ
   pub misfits : ℕ
   pub applies : ℕ
   pub may_fail : Bool
 
-abbrev pub counts : ℕ → ℕ → Bool → Calls → Counts
+abbrev pub counts : ℕ → ℕ → Bool → CallCounts → ViewCounts
 counts faults misfits may_fail calls = record { faults = faults; misfits = misfits; applies = calls.applies; may_fail = may_fail }
 
 abbrev pub IsFailed : Option ConnFault → Type 0
 IsFailed fault = IsSomeAnd fault (λ one. one ≡ Failed)
 
-abbrev pub IsMisfit : Option ConnFault → Type 0
-IsMisfit fault = IsSomeAnd fault (λ one. is_misfit one ≡ true)
+abbrev pub IsMisfitFault : Option ConnFault → Type 0
+IsMisfitFault fault = IsSomeAnd fault (λ one. is_misfit one ≡ true)
 
 -- Calls of a view of a schema left these counts, and ended with this fault or with none. Counts never fall. A
 -- fault has its cause: a count that rose. What can't fail goes on not to, and nothing is applied.
-pub record Leaves (schema : Schema) (tells : Bool) (before after : Counts) (fault : Option ConnFault) : Type 0 where
+pub record Leaves (schema : Schema) (tells : Bool) (before after : ViewCounts) (fault : Option ConnFault) : Type 0 where
   pub failed : HasCause before.may_fail before.faults after.faults (IsFailed fault)
-  pub misfit : HasCause (not tells) before.misfits after.misfits (IsMisfit fault)
-  pub only : (IsMisfit fault → ⊥) → after.misfits ≡ before.misfits
+  pub misfit : HasCause (not tells) before.misfits after.misfits (IsMisfitFault fault)
+  pub only : (IsMisfitFault fault → ⊥) → after.misfits ≡ before.misfits
   pub column : IfSome fault (NamesColumn schema)
   pub sure : before.may_fail ≡ false → after.may_fail ≡ false
   pub applies : after.applies ≡ before.applies
@@ -52,11 +52,11 @@ pub record CanGoBack (before after : Versions) : Type 0 where
   pub below : after.below ≡ before.below
 
 -- the tables were changed so, by changes that can be taken back
-pub record Reaches (change : Tables → Tables) (before after : Versions) : Type 0 where
+pub record ChangesTo (change : Tables → Tables) (before after : Versions) : Type 0 where
   pub now : after.now ≡ option_map change before.now
   pub back : CanGoBack before after
 
 -- the tables were changed so, or after a refusal nothing was
-pub record Writes {T E : Type 0} (change : Tables → Tables) (before after : Versions) (result : Result T E) : Type 0 where
-  pub ok : OnOk result (Reaches change before after)
+pub record ChangesOrLeaves {T E : Type 0} (change : Tables → Tables) (before after : Versions) (result : Result T E) : Type 0 where
+  pub ok : OnOk result (ChangesTo change before after)
   pub err : OnErr result (after ≡ before)

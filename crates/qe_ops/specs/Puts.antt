@@ -4,10 +4,10 @@ use Rattle.qe_base.specs.declared.answer.Rule.{Rule}
 use Rattle.qe_base.specs.declared.value.Row.{Row}
 use Rattle.qe_base.specs.declared.value.Value.{Value}
 use Rattle.qe_base.specs.declared.value.Value.TheVariants.{Null, Text, Bool, Int, Moment, Blob, Member}
-use Rattle.qe_schema.specs.Schemas.{Schema}
-use Rattle.qe_tables.specs.Columns.{Values, are_same, at_columns, value_at}
-use Rattle.qe_tables.specs.Put.{broken_key, put_among, raised}
-use Rattle.qe_tables.specs.Tables.{Tables, table_at, with_rows, with_last}
+use Rattle.qe_base.specs.Schemas.{Schema}
+use Rattle.qe_schema.specs.Columns.{Values, are_same, at_columns, value_at}
+use Rattle.qe_schema.specs.Put.{broken_key, put_among, raised}
+use Rattle.qe_schema.specs.Tables.{Tables, table_at, with_rows, with_last}
 use Rattle.qe_view.specs.Versions.{Versions}
 use Rattle.qe_ops.specs.Leaves.{CanGoBack}
 use Rattle.qe_ops.specs.declared.refusal.Refusal.{Refusal}

@@ -2,8 +2,8 @@
 use Rattle.std.specs.Prelude.{◌≡◌, ℕ, Option, Some, None, Result, Ok, Err}
 use Rattle.qe_base.specs.declared.answer.OpFault.{OpFault}
 use Rattle.qe_base.specs.declared.answer.OpFault.TheVariants as answered
-use Rattle.qe_changes.specs.declared.ConnFault.{ConnFault}
-use Rattle.qe_changes.specs.declared.ConnFault.TheVariants as fault
+use Rattle.qe_view.specs.declared.changes.ConnFault.{ConnFault}
+use Rattle.qe_view.specs.declared.changes.ConnFault.TheVariants as fault
 use Rattle.qe_ops.specs.declared.refusal.Refusal.{Refusal}
 use Rattle.qe_ops.specs.declared.refusal.Refusal.TheVariants as refusal
 

@@ -1,7 +1,9 @@
 //! Filling a new row.
-ghost use Rattle.std.specs.Prelude.{◌≡◌, ◌≤◌, length, IfOk};
+ghost use Rattle.std.specs.Prelude.{◌≡◌, ◌≤◌, length, map, unwrap_or, IfOk};
+ghost use Rattle.std.specs.List.{enumerate_from};
 ghost use Rattle.std.specs.Option.{option_copied};
-ghost use Rattle.qe_plain.specs.Filled.{given_for, value_of, filled};
+ghost use Rattle.qe_base.specs.declared.value.Value.TheVariants.{Null};
+ghost use Rattle.qe_writing.specs.Fill.{given_for};
 
 use qe_base::{Column, Items, Memory, Row, Value};
 use std::alloc::Global;
@@ -19,13 +21,8 @@ fn given(column: u16, values: &[(u16, Value)]) -> Option<&Value>
 }
 
 /// What a new row has in the column of a number: the given value, else null.
-fn value_for(
-    alloc: Global,
-    number: u16,
-    column: &Column,
-    values: &[(u16, Value)],
-) -> Result<Value, Memory>
-    ensures { IfOk result (λ value. value ≡ value_of values.now (number, column.now)) }
+fn value_for(alloc: Global, number: u16, values: &[(u16, Value)]) -> Result<Value, Memory>
+    ensures { IfOk result (λ value. value ≡ unwrap_or (given_for number values.now) Null) }
 {
     match given(number, values) {
         Some(value) => value.copy(alloc),
@@ -33,14 +30,14 @@ fn value_for(
     }
 }
 
-/// A new row of these columns, with the given values.
+/// A new row of columns without fills: each column's given value, else null.
 pub fn fill(alloc: Global, columns: &[Column], values: &[(u16, Value)]) -> Result<Row, Memory>
     requires { length columns.now ≤ 128 }
-    ensures { IfOk result (λ row. row ≡ filled columns.now values.now) }
+    ensures { IfOk result (λ row. row.values ≡ map (λ numbered. unwrap_or (given_for numbered.0 values.now) Null) (enumerate_from 0 columns.now)) }
 {
     let mut filled = Items::new(alloc);
-    for (number, column) in columns.iter().enumerate() {
-        filled.push(value_for(alloc, number as u16, column, values)?)?;
+    for (number, _) in columns.iter().enumerate() {
+        filled.push(value_for(alloc, number as u16, values)?)?;
     }
     Ok(Row { values: filled })
 }

@@ -1,30 +1,28 @@
 //! Keys, and the rows that hold their values.
 ghost use Rattle.std.specs.Prelude.{◌≡◌, ◌∷◌, [], ℕ, true, is_some, slice_get, IfOk, IfSome};
 ghost use Rattle.std.specs.List.{list_any};
-ghost use Rattle.psl_rules.specs.Updates.{In};
+ghost use Rattle.qe_text.specs.Lists.{In};
 ghost use Rattle.qe_base.specs.declared.schema.Key.{Key};
-ghost use Rattle.qe_changes.specs.Right.{can_load, is_row_of};
-ghost use Rattle.qe_schema.specs.Kept.{KeyStands};
-ghost use Rattle.qe_tables.specs.Columns.{at_columns, holds};
-ghost use Rattle.qe_tables.specs.Fits.{fit_columns};
-ghost use Rattle.qe_tables.specs.Put.{broken_key as first_broken_key};
-ghost use Rattle.qe_tables.specs.Tables.{table_at, is_model};
-ghost use Rattle.qe_plain.specs.Plain.{columns_of_key};
+ghost use Rattle.qe_view.specs.Right.{can_load, is_row_of};
+ghost use Rattle.qe_schema.specs.Keys.{KeyStands};
+ghost use Rattle.qe_schema.specs.Columns.{at_columns, holds};
+ghost use Rattle.qe_schema.specs.Fits.{fit_columns};
+ghost use Rattle.qe_schema.specs.Put.{broken_key as first_broken_key};
+ghost use Rattle.qe_schema.specs.Tables.{table_at, is_model};
+ghost use Rattle.qe_reading.specs.Page.{columns_of};
 ghost use Rattle.qe_ops.specs.Leaves.{Leaves, counts, fault_in};
 ghost use Rattle.qe_ops.specs.Puts.{row_having};
 
 use crate::model::table_of;
 use qe_base::{Key, Row, Rows, Table, TableId};
-use qe_changes::ConnFault;
-use qe_rows::{has_null, id_row};
 use qe_schema::Schema;
 use qe_text::Memory;
-use qe_view::View;
+use qe_view::{ConnFault, View, has_null, id_row};
 use std::alloc::Global;
 
 /// The columns of a key, none where there is no such key.
 pub fn key_columns(model: &Table, key: u16) -> &[u16]
-    ensures { result.now ≡ columns_of_key (slice_get model.now.keys key) }
+    ensures { result.now ≡ columns_of (slice_get model.now.keys key) }
 {
     match sqlite_items::at(model.keys.as_slice(), key as usize) {
         Some(key) => key.columns.as_slice(),

@@ -1,10 +1,10 @@
 //! The models of a schema.
 ghost use Rattle.std.specs.Prelude.{◌≡◌, ◌<◌, ◌≤◌, length};
-ghost use Rattle.qe_schema.specs.Kept.{HasKeys};
-ghost use Rattle.qe_tables.specs.Tables.{table_at};
+ghost use Rattle.qe_schema.specs.Keys.{HasKeys};
+ghost use Rattle.qe_schema.specs.Tables.{table_at};
 
 use qe_base::{Table, TableId};
-use qe_schema::{Schema, keys_have_columns};
+use qe_schema::Schema;
 
 /// A table of the schema.
 pub fn table_of(schema: &Schema, table: TableId) -> &Table
@@ -13,7 +13,6 @@ pub fn table_of(schema: &Schema, table: TableId) -> &Table
     ensures few { length result.now.columns ≤ 128 }
     ensures keys { HasKeys result.now }
 {
-    schema.is_accepted();
-    keys_have_columns();
+    schema.is_sound();
     schema.table(table).unwrap()
 }

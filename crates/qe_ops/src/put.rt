@@ -1,10 +1,10 @@
 //! Putting a row into its table.
 ghost use Rattle.std.specs.Prelude.{◌≡◌, true, is_some, slice_get};
-ghost use Rattle.qe_changes.specs.Right.{is_row_of};
-ghost use Rattle.qe_tables.specs.Fits.{counting, is_counting_column, is_whole_number};
-ghost use Rattle.qe_tables.specs.Put.{put_of};
-ghost use Rattle.qe_tables.specs.Tables.{id_columns};
-ghost use Rattle.qe_ops.specs.Leaves.{Leaves, Writes, counts, fault_in};
+ghost use Rattle.qe_view.specs.Right.{is_row_of};
+ghost use Rattle.qe_schema.specs.Fits.{counting, is_counting_column, is_whole_number};
+ghost use Rattle.qe_schema.specs.Put.{put_of};
+ghost use Rattle.qe_schema.specs.Tables.{id_columns};
+ghost use Rattle.qe_ops.specs.Leaves.{Leaves, ChangesOrLeaves, counts, fault_in};
 ghost use Rattle.qe_ops.specs.Puts.{IsUnheld, PutsInto, number_at, placed, raised_for, whole_number};
 ghost use Rattle.qe_ops.specs.Refusals.{fault_of};
 
@@ -12,9 +12,8 @@ use crate::keys::broken_key;
 use crate::model::table_of;
 use crate::refusal::Refusal;
 use qe_base::{Column, Kind, Row, Rule, Table, TableId, Value};
-use qe_changes::ConnFault;
 use qe_schema::Schema;
-use qe_view::View;
+use qe_view::{ConnFault, View};
 use std::alloc::Global;
 
 /// Whether the values of a kind are whole numbers.
@@ -100,7 +99,7 @@ fn raise_counter<V: View>(
     requires stands { V.stands view.old }
     requires schema { V.schema view.old ≡ schema.now }
     requires right { is_row_of schema.now table.0 row.now ≡ true }
-    ensures writes { Writes (raised_for schema.now table.0 row.now) (V.versions view.old) (V.versions view.new) result }
+    ensures writes { ChangesOrLeaves (raised_for schema.now table.0 row.now) (V.versions view.old) (V.versions view.new) result }
     ensures schema { V.schema view.new ≡ V.schema view.old }
     ensures stands { V.stands view.new }
     ensures leaves { Leaves (V.schema view.old) (is_some (V.versions view.old).now) (counts (V.fault_count view.old) (V.misfit_count view.old) (V.may_fail view.old) (V.calls view.old)) (counts (V.fault_count view.new) (V.misfit_count view.new) (V.may_fail view.new) (V.calls view.new)) (fault_in result) }
@@ -130,7 +129,7 @@ fn put_unheld<V: View>(
     requires schema { V.schema view.old ≡ schema.now }
     requires right { is_row_of schema.now table.0 row ≡ true }
     requires unheld { IsUnheld schema.now table.0 row (V.versions view.old).now }
-    ensures writes { Writes (placed schema.now table.0 row) (V.versions view.old) (V.versions view.new) result }
+    ensures writes { ChangesOrLeaves (placed schema.now table.0 row) (V.versions view.old) (V.versions view.new) result }
     ensures schema { V.schema view.new ≡ V.schema view.old }
     ensures stands { V.stands view.new }
     ensures leaves { Leaves (V.schema view.old) (is_some (V.versions view.old).now) (counts (V.fault_count view.old) (V.misfit_count view.old) (V.may_fail view.old) (V.calls view.old)) (counts (V.fault_count view.new) (V.misfit_count view.new) (V.may_fail view.new) (V.calls view.new)) (fault_in result) }

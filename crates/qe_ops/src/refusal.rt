@@ -3,8 +3,8 @@ ghost use Rattle.std.specs.Prelude.{◌≡◌};
 ghost use Rattle.qe_ops.specs.Refusals.{answered_refusal};
 
 use qe_base::{OpFault, Rule};
-use qe_changes::ConnFault;
 use qe_text::Memory;
+use qe_view::ConnFault;
 
 /// Why a part of an operation was refused.
 #[derive(Clone, Copy, Debug, PartialEq, Eq)]
@@ -26,7 +26,7 @@ impl From<ConnFault> for Refusal {
 }
 
 impl From<Memory> for Refusal {
-    ghost use Rattle.qe_changes.specs.declared.ConnFault.TheVariants as fault;
+    ghost use Rattle.qe_view.specs.declared.changes.ConnFault.TheVariants as fault;
     ghost use Rattle.qe_ops.specs.declared.refusal.Refusal.TheVariants as refusal;
 
     ghost from_gives = { λ _ e. e ≡ refusal.Fault fault.Memory };

@@ -2,8 +2,9 @@
 ghost use Rattle.std.specs.Prelude.{◌≡◌, ℕ, true, is_some};
 ghost use Rattle.qe_base.specs.declared.answer.Outside.{Outside};
 ghost use Rattle.qe_base.specs.declared.write.Op.TheVariants as op;
-ghost use Rattle.qe_plain.specs.Fits.{op_fits};
-ghost use Rattle.qe_plain.specs.Plain.{plain};
+ghost use Rattle.qe_reading.specs.CarriedOut.{is_carried_out};
+ghost use Rattle.qe_writing.specs.Plain.{plain};
+ghost use Rattle.qe_writing.specs.WriteFits.{op_fits};
 ghost use Rattle.qe_ops.specs.Leaves.{Leaves, counts};
 ghost use Rattle.qe_ops.specs.Performs.{Carries, Performs};
 ghost use Rattle.qe_ops.specs.Refusals.{TellsCounts, fault_of, fault_told};
@@ -32,6 +33,7 @@ fn find<V: View>(
     requires stands { V.stands view.old }
     requires schema { V.schema view.old ≡ schema.now }
     requires fits { op_fits schema.now (op.FindUnique table at.now strict pick.now) ≡ true }
+    requires carried { is_carried_out schema.now (op.FindUnique table at.now strict pick.now) ≡ true }
     ensures carries { (outside : Outside) → Carries (plain schema.now (op.FindUnique table at.now strict pick.now) outside) (V.versions view.old) (V.versions view.new) result }
     ensures schema { V.schema view.new ≡ V.schema view.old }
     ensures stands { V.stands view.new }
@@ -59,6 +61,7 @@ fn create<V: View>(
     requires stands { V.stands view.old }
     requires schema { V.schema view.old ≡ schema.now }
     requires fits { op_fits schema.now (op.Create table tree.now pick.now) ≡ true }
+    requires carried { is_carried_out schema.now (op.Create table tree.now pick.now) ≡ true }
     ensures carries { (outside : Outside) → Carries (plain schema.now (op.Create table tree.now pick.now) outside) (V.versions view.old) (V.versions view.new) result }
     ensures schema { V.schema view.new ≡ V.schema view.old }
     ensures stands { V.stands view.new }
@@ -81,6 +84,7 @@ fn carry_out<V: View>(
     requires stands { V.stands view.old }
     requires schema { V.schema view.old ≡ schema.now }
     requires fits { op_fits schema.now op.now ≡ true }
+    requires carried { is_carried_out schema.now op.now ≡ true }
     ensures carries { (outside : Outside) → Carries (plain schema.now op.now outside) (V.versions view.old) (V.versions view.new) result }
     ensures schema { V.schema view.new ≡ V.schema view.old }
     ensures stands { V.stands view.new }
@@ -98,8 +102,8 @@ fn carry_out<V: View>(
     }
 }
 
-/// Runs an operation that fits the schema over a view of its tables. It answers, and makes of the tables,
-/// what the documented rules say; after a refusal the tables are as before, and so is what can be taken back.
+/// Runs an operation that fits the schema and is carried out so far over a view of its tables. It answers, and
+/// makes of the tables, what the documented rules say; after a refusal the tables are as before, and so is what can be taken back.
 pub fn run_op<V: View>(
     alloc: Global,
     schema: &Schema,
@@ -109,6 +113,7 @@ pub fn run_op<V: View>(
     requires stands { V.stands view.old }
     requires schema { V.schema view.old ≡ schema.now }
     requires fits { op_fits schema.now op.now ≡ true }
+    requires carried { is_carried_out schema.now op.now ≡ true }
     ensures performs { (outside : Outside) → Performs (plain schema.now op.now outside) (V.versions view.old) (V.versions view.new) result }
     ensures schema { V.schema view.new ≡ V.schema view.old }
     ensures stands { V.stands view.new }

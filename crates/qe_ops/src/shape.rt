@@ -1,9 +1,11 @@
 //! Showing a row as an answer.
 ghost use Rattle.std.specs.Prelude.{◌≡◌, IfOk, slice_get};
-ghost use Rattle.qe_plain.specs.Shape.{scalar_of, shape_of};
+ghost use Rattle.qe_base.specs.declared.answer.Answer as answers;
+ghost use Rattle.qe_base.specs.declared.query.Pick.{out-Pick};
+ghost use Rattle.qe_reading.specs.Shape.{columns_shown, scalar_of};
 
 use qe_base::{Answer, Items, Memory, Pick, Row, Table, Text};
-use qe_rows::value_in;
+use qe_view::value_in;
 use std::alloc::Global;
 
 /// The value in a column, by the column's name.
@@ -19,9 +21,9 @@ fn scalar(alloc: Global, table: &Table, column: u16, row: &Row) -> Result<(Text,
     }
 }
 
-/// The row as an answer.
+/// The picked columns of a row as an answer.
 pub fn shape(alloc: Global, table: &Table, pick: &Pick, row: &Row) -> Result<Answer, Memory>
-    ensures { IfOk result (λ answer. answer ≡ shape_of table.now pick.now row.now) }
+    ensures { IfOk result (λ answer. answer ≡ answers.Object (columns_shown table.now (out-Pick pick.now).columns row.now)) }
 {
     let mut members = Items::new(alloc);
     for column in pick.columns.as_slice() {

@@ -2,23 +2,21 @@
 use Rattle.std.proofs.Common.{◌≡◌, ℕ, zero, suc, ◌<◌, Bool, true, false, ◌&&◌, not, cond, List, [], ◌∷◌, length, unwrap_or, refl, sym, ◌∙◌, true≢false, inl, inr, arith}
 use Rattle.std.specs.Prelude.{slice_get, IfSome}
 use Rattle.std.proofs.lemmas.Bool.{and_parts, and_from}
-use Rattle.psl_rules.specs.Updates.{In}
-use Rattle.qe_accepted.proofs.Ids.{ids_are_required}
+use Rattle.qe_text.specs.Lists.{In}
 use Rattle.qe_base.specs.declared.schema.Choice.{Choice}
 use Rattle.qe_base.specs.declared.schema.Column.{Column}
 use Rattle.qe_base.specs.declared.schema.Key.{Key}
 use Rattle.qe_base.specs.declared.schema.Table.{Table}
 use Rattle.qe_base.specs.declared.value.Row.{Row}
 use Rattle.qe_base.specs.declared.value.Value.TheVariants.{Null}
-use Rattle.qe_changes.specs.Right.{is_value_of, are_values_of, is_row_of, is_id_of}
+use Rattle.qe_view.specs.Right.{is_value_of, are_values_of, is_row_of, is_id_of}
 use Rattle.qe_overlay.specs.Laid.{id_row}
-use Rattle.qe_schema.proofs.Identity.{have_keys}
-use Rattle.qe_schema.specs.Kept.{HasKeys}
-use Rattle.qe_schema.specs.Schemas.{Schema}
-use Rattle.qe_schema.specs.SchemaOf.{IsSchema}
-use Rattle.qe_tables.specs.Columns.{Values, is_null, at_columns, value_at}
-use Rattle.qe_tables.specs.Fits.{fit_columns, fits_column, is_of_kind}
-use Rattle.qe_tables.specs.Tables.{no_table, table_at, is_model, is_model_table, id_columns, first_columns}
+use Rattle.qe_schema.specs.Keys.{HasKeys}
+use Rattle.qe_base.specs.Schemas.{Schema}
+use Rattle.qe_schema.specs.Sound.{IsSound}
+use Rattle.qe_schema.specs.Columns.{Values, is_null, at_columns, value_at}
+use Rattle.qe_schema.specs.Fits.{fit_columns, fits_column, is_of_kind}
+use Rattle.qe_schema.specs.Tables.{no_table, table_at, is_model, is_model_table, id_columns, first_columns}
 
 required_fits : (null optional kind : Bool) → optional ≡ false → cond null optional kind ≡ true → not null && cond null optional kind ≡ true
 required_fits true optional kind required fits = absurd (true≢false (sym fits ∙ required))
@@ -52,9 +50,9 @@ there table keys column is_in = by table.keys (λ key among. (keys.stand key amo
     by (key ∷ all) each is_in = each key (inl refl) is_in
 
 -- each row that is right for a model has an id that is right
-pub have_ids : (schema : Schema) → IsSchema schema → (table : ℕ) (row : Row) → is_row_of schema table row ≡ true → is_id_of schema table (id_row (table_at schema table) row) ≡ true
+pub have_ids : (schema : Schema) → IsSound schema → (table : ℕ) (row : Row) → is_row_of schema table row ≡ true → is_id_of schema table (id_row (table_at schema table) row) ≡ true
 have_ids schema is table row right =
     let parts = and_parts (is_model schema table) (fit_columns schema.choices (table_at schema table).columns row.values) right in
     let known = table_in schema.tables table parts.0 in
     and_from _ _ parts.0 (values_are schema.choices (table_at schema table).columns row (id_columns (table_at schema table))
-    (λ column is_in. value_is schema.choices (table_at schema table).columns row.values column (there (table_at schema table) (have_keys schema is (table_at schema table) known) column is_in) (ids_are_required schema is (table_at schema table) known column is_in) parts.1))
+    (λ column is_in. value_is schema.choices (table_at schema table).columns row.values column (there (table_at schema table) (is.keys (table_at schema table) known) column is_in) (is.ids (table_at schema table) known column is_in) parts.1))

@@ -6,7 +6,7 @@ use Rattle.std.proofs.lemmas.List.{append_assoc}
 use Rattle.qe_base.specs.Values.{row_cmp}
 use Rattle.qe_base.specs.declared.schema.Table.{Table}
 use Rattle.qe_base.specs.declared.value.Row.{Row}
-use Rattle.qe_tables.specs.Tables.{id_of}
+use Rattle.qe_schema.specs.Tables.{id_of}
 use Rattle.qe_overlay.proofs.Rows.{entered_is}
 use Rattle.qe_overlay.specs.Laid.{id_row, put_in, untouched, row_if}
 use Rattle.qe_overlay.specs.Layers.{Entry, rows_and, present, is_entered}

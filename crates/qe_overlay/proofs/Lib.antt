@@ -1,4 +1,3 @@
-pub mod Equal
 pub mod Ids
 pub mod Laying
 pub mod Maps

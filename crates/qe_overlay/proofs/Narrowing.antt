@@ -8,7 +8,7 @@ use Rattle.std.proofs.lemmas.Bool.{eqb-true, eq-eqb, ltb-true, ltb-false}
 use Rattle.std.proofs.lemmas.Option.{slice_get_past}
 use Rattle.qe_base.specs.Values.{row_cmp}
 use Rattle.qe_base.specs.declared.value.TableId.{TableId}
-use Rattle.qe_changes.specs.Right.{is_last_of}
+use Rattle.qe_view.specs.Right.{is_last_of}
 use Rattle.qe_overlay.specs.Fits.{FitsEntry, NarrowedFit}
 use Rattle.qe_overlay.specs.Held.{layers_in, is_listed, narrowed, with_layer, NarrowedStay}
 use Rattle.qe_overlay.specs.Layers.{Layer, Layers, no_layer}

@@ -11,11 +11,11 @@ use Rattle.qe_base.specs.ValueOrder.{value_eq_equivalence}
 use Rattle.qe_base.specs.declared.schema.Table.{Table}
 use Rattle.qe_base.specs.declared.value.Row.{Row}
 use Rattle.qe_base.specs.declared.value.Value.{Value}
-use Rattle.qe_tables.specs.Columns.{are_same, at_columns, values_cmp}
-use Rattle.qe_tables.specs.Pairs.{pair_cmp, is_pair, with_pair, without_pair, PairsAscend, both_values}
-use Rattle.qe_tables.specs.Put.{put_among}
-use Rattle.qe_tables.specs.Tables.{id_columns, id_of}
-use Rattle.qe_changes.specs.After.{pair_row, without_id}
+use Rattle.qe_schema.specs.Columns.{are_same, at_columns, values_cmp}
+use Rattle.qe_schema.specs.Pairs.{pair_cmp, is_pair, with_pair, without_pair, PairsAscend, both_values}
+use Rattle.qe_schema.specs.Put.{put_among}
+use Rattle.qe_schema.specs.Tables.{id_columns, id_of}
+use Rattle.qe_view.specs.After.{pair_row, without_id}
 use Rattle.qe_overlay.specs.Laid.{id_row}
 use Rattle.qe_overlay.specs.Layers.{Entry, rows_and, present, is_entered, put_all, over_rows, pair_of, link_all, over_pairs}
 use Rattle.qe_overlay.proofs.Rows.{keyed, Sorted, OwnIds, SortedEntries, put_seen, remove_seen}

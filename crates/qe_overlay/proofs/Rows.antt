@@ -15,14 +15,14 @@ use Rattle.qe_base.specs.Values.{row_cmp}
 use Rattle.qe_base.specs.ValueOrder.{row_cmp_total}
 use Rattle.qe_base.specs.declared.schema.Table.{Table}
 use Rattle.qe_base.specs.declared.value.Row.{Row}
-use Rattle.qe_tables.specs.Columns.{are_same, values_cmp}
-use Rattle.qe_tables.specs.Fits.{Ascending}
-use Rattle.qe_tables.specs.Put.{put_among}
-use Rattle.qe_tables.specs.Tables.{id_of}
-use Rattle.qe_changes.specs.After.{without_id}
+use Rattle.qe_schema.specs.Columns.{are_same, values_cmp}
+use Rattle.qe_schema.specs.Fits.{Ascending}
+use Rattle.qe_schema.specs.Put.{put_among}
+use Rattle.qe_schema.specs.Tables.{id_of}
+use Rattle.qe_view.specs.After.{without_id}
 use Rattle.qe_overlay.specs.Laid.{id_row, put_in, untouched, laid_over}
 use Rattle.qe_overlay.specs.Layers.{Entry, rows_and, present, is_entered, put_all, over_rows}
-use Rattle.qe_overlay.proofs.Equal.{exact_row, same_as_rows}
+use Rattle.qe_schema.proofs.Equal.{exact_row, same_as_rows}
 use Rattle.qe_overlay.proofs.Maps.{same_back, lookup-insert_entry, sorted-insert_entry, found_behind, found_same, between, sorted-filter-keys, sorted-filter}
 
 -- rows under their ids

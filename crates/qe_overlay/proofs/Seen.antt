@@ -3,27 +3,22 @@ use Rattle.std.proofs.Common.{◌≡◌, ℕ, zero, suc, ℤ, pos, List, [], ◌
 use Rattle.std.specs.Prelude.{unwrap_or, IfSome, ◌==◌}
 use Rattle.std.specs.List.{AllByRecursion}
 use Rattle.std.proofs.lemmas.Bool.{and_parts, eqb-true, eq-eqb}
-use Rattle.psl_text.specs.declared.tree.Block.{Block}
-use Rattle.psl_text.specs.declared.tree.Tree.{Tree}
-use Rattle.psl_rules.specs.Parts.{models}
-use Rattle.psl_rules.specs.Relations.{Pair}
-use Rattle.psl_rules.specs.Stored.{linked}
 use Rattle.qe_base.specs.ValueOrder.{row_cmp_total}
 use Rattle.qe_base.specs.declared.schema.Column.{Column}
 use Rattle.qe_base.specs.declared.schema.Table.{Table}
 use Rattle.qe_base.specs.declared.value.Row.{Row}
 use Rattle.qe_base.specs.declared.value.TableId.{TableId}
 use Rattle.qe_base.specs.declared.value.Value.{Value}
-use Rattle.qe_schema.specs.Schemas.{Schema}
-use Rattle.qe_schema.specs.SchemaOf.{IsSchema, table_of, link_table}
-use Rattle.qe_tables.specs.Fits.{FitsSchema}
-use Rattle.qe_tables.specs.Pairs.{with_pair, without_pair}
-use Rattle.qe_tables.specs.Put.{put_among}
-use Rattle.qe_tables.specs.Tables.{Tables, no_table, table_at, is_model, is_model_table, is_link, is_link_table, id_columns, id_of, with_rows, with_last, with_pairs}
-use Rattle.qe_changes.specs.After.{after, pair_row, without_id}
-use Rattle.qe_changes.specs.Right.{is_row_of, is_id_of, is_pair_of, is_last_of}
-use Rattle.qe_changes.specs.declared.Change.TheVariants as change
-use Rattle.qe_overlay.specs.Fits.{IsRowAt, IsPairRow, FitsAs, FitsEntry, LayersFit}
+use Rattle.qe_base.specs.Schemas.{Schema}
+use Rattle.qe_schema.specs.Sound.{IsSound}
+use Rattle.qe_schema.specs.Fits.{FitsSchema}
+use Rattle.qe_schema.specs.Pairs.{with_pair, without_pair}
+use Rattle.qe_schema.specs.Put.{put_among}
+use Rattle.qe_schema.specs.Tables.{Tables, no_table, table_at, is_model, is_model_table, is_link, is_link_table, id_columns, id_of, with_rows, with_last, with_pairs}
+use Rattle.qe_view.specs.After.{after, pair_row, without_id}
+use Rattle.qe_view.specs.Right.{is_row_of, is_id_of, is_pair_of, is_last_of}
+use Rattle.qe_view.specs.declared.changes.Change.TheVariants as change
+use Rattle.qe_overlay.specs.Fits.{IsRowAt, IsPairOf, FitsAs, FitsEntry, LayersFit}
 use Rattle.qe_overlay.specs.Held.{with_layer, with_entry}
 use Rattle.qe_overlay.specs.Laid.{id_row}
 use Rattle.qe_overlay.specs.Layers.{Entry, Layer, Layers, over_rows, over_pairs, over_last, seen}
@@ -32,33 +27,6 @@ use Rattle.qe_overlay.proofs.Rows.{OwnIds, SortedEntries, sorted_from, all-inser
 use Rattle.qe_overlay.proofs.Pairs.{PairEntry, link_seen, unlink_seen}
 
 -- ---- link tables
-
--- a link table has two columns, which are its id
-pub record LinkShape (table : Table) : Type 0 where
-  pub id : id_columns table ≡ 0 ∷ 1 ∷ []
-  pub first : Column
-  pub second : Column
-  pub columns : table.columns ≡ first ∷ second ∷ []
-
-Shaped : Option Table → Type 0
-Shaped found = is_link_table found ≡ true → LinkShape (unwrap_or found no_table)
-
-linked_shaped : (tree : Tree) (pairs : List Pair) (n : ℕ) → Shaped (slice_get (map (link_table tree) pairs) n)
-unfolding Shaped
-linked_shaped tree [] n is = absurd (true≢false (sym is))
-linked_shaped tree (pair ∷ pairs) zero is = record { id = refl; first = _; second = _; columns = refl }
-linked_shaped tree (pair ∷ pairs) (suc n) is = linked_shaped tree pairs n is
-
-all_shaped : (tree : Tree) (all : List Block) (pairs : List Pair) (n : ℕ) → Shaped (slice_get (map (table_of tree) all ++ map (link_table tree) pairs) n)
-unfolding Shaped
-all_shaped tree [] pairs n is = linked_shaped tree pairs n is
-all_shaped tree (model ∷ all) pairs zero is = absurd (true≢false (sym is))
-all_shaped tree (model ∷ all) pairs (suc n) is = all_shaped tree all pairs n is
-
-pub link_shape : (schema : Schema) → IsSchema schema → (table : ℕ) → is_link schema table ≡ true → LinkShape (table_at schema table)
-unfolding Shaped
-link_shape schema (tree, accepted, value) table =
-    subst (λ (s : Schema). is_link s table ≡ true → LinkShape (table_at s table)) (sym value) (all_shaped tree (models tree) (linked tree) table)
 
 model_is_none : (found : Option Table) → is_model_table found ≡ true → is_link_table found ≡ false
 model_is_none None is = refl
@@ -197,7 +165,7 @@ module _ (schema : Schema) (layers : Layers) (fit : LayersFit schema layers) whe
   as_model : (table : ℕ) (id : Row) (now : Option Row) → is_link schema table ≡ false → (is_id_of schema table id ≡ true) × IfSome now (IsRowAt schema table id) → FitsEntry schema table (id, now)
   as_model table id now model fits = subst (λ b. FitsAs b schema table (id, now)) (sym model) fits
 
-  as_link : (table : ℕ) (id : Row) (now : Option Row) → is_link schema table ≡ true → IsPairRow schema table id × IfSome now (λ row. row ≡ id) → FitsEntry schema table (id, now)
+  as_link : (table : ℕ) (id : Row) (now : Option Row) → is_link schema table ≡ true → IsPairOf schema table id × IfSome now (λ row. row ≡ id) → FitsEntry schema table (id, now)
   as_link table id now link fits = subst (λ b. FitsAs b schema table (id, now)) (sym link) fits
 
   pub put_fits : (table : TableId) (row : Row) → is_row_of schema table.0 row ≡ true → is_id_of schema table.0 (id_row (table_at schema table.0) row) ≡ true
@@ -238,23 +206,23 @@ module _ (schema : Schema) (layers : Layers) (fit : LayersFit schema layers) whe
         (remove_seen (table_at schema table.0) (layers table.0).entries (tables.rows table.0) id (fit.order table.0) (entries_own schema layers fit table.0 model) (sorted_from (table_at schema table.0) (tables.rows table.0) (below.order table.0)))
         ∙ ap (λ b. with_rows table.0 (without_id (table_at schema table.0) id.values (cond b (tables.rows table.0) (over_rows (table_at schema table.0) (layers table.0).entries (tables.rows table.0)))) (seen schema layers tables)) (sym model)
 
-    pub link_is : IsSchema schema → (table : TableId) (pair : Value × Value) → is_pair_of schema table.0 pair.0 pair.1 ≡ true
+    pub link_is : IsSound schema → (table : TableId) (pair : Value × Value) → is_pair_of schema table.0 pair.0 pair.1 ≡ true
         → seen schema (with_layer table.0 (with_entry (pair_row pair) (Some (pair_row pair)) (layers table.0)) layers) tables ≡ after schema (change.Link table pair.0 pair.1) (seen schema layers tables)
-    link_is accepted table pair right =
+    link_is sound table pair right =
         let link = (and_parts (is_link schema table.0) _ right).0 in
         let later = link_fits table pair right in
         pairs_changed schema layers tables table.0 (with_entry (pair_row pair) (Some (pair_row pair)) (layers table.0)) _ link refl
-        (link_seen (table_at schema table.0) (link_shape schema accepted table.0 link).id (layers table.0).entries (tables.pairs table.0) pair (fit.order table.0) (entries_pairs schema layers fit table.0 link)
+        (link_seen (table_at schema table.0) (sound.two_columns table.0 link).id (layers table.0).entries (tables.pairs table.0) pair (fit.order table.0) (entries_pairs schema layers fit table.0 link)
         (all-insert_entry PairEntry (pair_row pair) (Some (pair_row pair)) (layers table.0).entries (entries_pairs schema layers fit table.0 link) (refl, refl))
         (below.pair_order table.0))
         ∙ ap (λ b. with_pairs table.0 (with_pair pair (cond b (over_pairs (layers table.0).entries (tables.pairs table.0)) (tables.pairs table.0))) (seen schema layers tables)) (sym link)
 
-    pub unlink_is : IsSchema schema → (table : TableId) (pair : Value × Value) → is_pair_of schema table.0 pair.0 pair.1 ≡ true
+    pub unlink_is : IsSound schema → (table : TableId) (pair : Value × Value) → is_pair_of schema table.0 pair.0 pair.1 ≡ true
         → seen schema (with_layer table.0 (with_entry (pair_row pair) None (layers table.0)) layers) tables ≡ after schema (change.Unlink table pair.0 pair.1) (seen schema layers tables)
-    unlink_is accepted table pair right =
+    unlink_is sound table pair right =
         let link = (and_parts (is_link schema table.0) _ right).0 in
         pairs_changed schema layers tables table.0 (with_entry (pair_row pair) None (layers table.0)) _ link refl
-        (unlink_seen (table_at schema table.0) (link_shape schema accepted table.0 link).id (layers table.0).entries (tables.pairs table.0) pair (fit.order table.0) (entries_pairs schema layers fit table.0 link)
+        (unlink_seen (table_at schema table.0) (sound.two_columns table.0 link).id (layers table.0).entries (tables.pairs table.0) pair (fit.order table.0) (entries_pairs schema layers fit table.0 link)
         (all-insert_entry PairEntry (pair_row pair) None (layers table.0).entries (entries_pairs schema layers fit table.0 link) (refl, tt))
         (below.pair_order table.0))
         ∙ ap (λ b. with_pairs table.0 (without_pair pair (cond b (over_pairs (layers table.0).entries (tables.pairs table.0)) (tables.pairs table.0))) (seen schema layers tables)) (sym link)

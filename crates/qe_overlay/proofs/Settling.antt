@@ -11,29 +11,29 @@ use Rattle.qe_base.specs.ValueOrder.{row_cmp_total}
 use Rattle.qe_base.specs.declared.schema.Table.{Table}
 use Rattle.qe_base.specs.declared.value.Row.{Row}
 use Rattle.qe_base.specs.declared.value.TableId.{TableId}
-use Rattle.qe_schema.specs.Schemas.{Schema}
-use Rattle.qe_schema.specs.SchemaOf.{IsSchema}
-use Rattle.qe_tables.specs.Columns.{are_same}
-use Rattle.qe_tables.specs.Fits.{FitsSchema}
-use Rattle.qe_tables.specs.Pairs.{with_pair, without_pair, PairsAscend}
-use Rattle.qe_tables.specs.Put.{put_among}
-use Rattle.qe_tables.specs.Tables.{Tables, table_at, is_link, is_link_table, is_model, is_model_table, id_columns, id_of, row_at}
-use Rattle.qe_changes.specs.After.{after, after_all, without_id, pair_row}
-use Rattle.qe_changes.specs.Right.{is_row_of, is_pair_of, is_last_of, is_right, in_stages, stage as stage_of, are_right, AreFree}
-use Rattle.qe_changes.specs.declared.Change.{Change}
-use Rattle.qe_changes.specs.declared.Change.TheVariants.{Remove, Put, Unlink, Link, Counter}
+use Rattle.qe_base.specs.Schemas.{Schema}
+use Rattle.qe_schema.specs.Sound.{IsSound}
+use Rattle.qe_schema.specs.Columns.{are_same}
+use Rattle.qe_schema.specs.Fits.{FitsSchema}
+use Rattle.qe_schema.specs.Pairs.{with_pair, without_pair, PairsAscend}
+use Rattle.qe_schema.specs.Put.{put_among}
+use Rattle.qe_schema.specs.Tables.{Tables, table_at, is_link, is_link_table, is_model, is_model_table, id_columns, id_of, row_at}
+use Rattle.qe_view.specs.After.{after, after_all, without_id, pair_row}
+use Rattle.qe_view.specs.Right.{is_row_of, is_pair_of, is_last_of, is_right, in_stages, stage as stage_of, are_right, AreFree}
+use Rattle.qe_view.specs.declared.changes.Change.{Change}
+use Rattle.qe_view.specs.declared.changes.Change.TheVariants.{Remove, Put, Unlink, Link, Counter}
 use Rattle.qe_overlay.specs.Fits.{FitsAs, FitsEntry, LayersFit}
 use Rattle.qe_overlay.specs.Held.{layers_in}
 use Rattle.qe_overlay.specs.Laid.{id_row, untouched}
 use Rattle.qe_overlay.specs.Layers.{Entry, Layer, Layers, no_layer, no_layers, is_entered, over_rows, over_pairs, over_last, pair_of, seen}
-use Rattle.qe_overlay.specs.Settled.{numbered, entry_changes, all_entries, counter_changes, table_changes, stage_from, stage_changes, settled_by, Settles}
+use Rattle.qe_overlay.specs.Settled.{numbered, entry_changes, all_entries, counter_changes, table_changes, stage_from, stage_changes, settled_by, SettlesBelow}
 use Rattle.qe_overlay.specs.declared.changes.Stage.{Stage}
 use Rattle.qe_overlay.specs.declared.changes.Stage.TheVariants.{Removes, Puts, Unlinks, Links, Counters}
-use Rattle.qe_overlay.proofs.Equal.{same_as_rows}
+use Rattle.qe_schema.proofs.Equal.{same_as_rows}
 use Rattle.qe_overlay.proofs.Maps.{same_back}
 use Rattle.qe_overlay.proofs.Pairs.{Pairs, as_rows, PairEntry, with_as_rows, without_as_rows, pairs_same, pairs_sorted, pairs_own, over_as_rows}
 use Rattle.qe_overlay.proofs.Rows.{keyed, Sorted, OwnIds, SortedEntries, at, put_over, over_none, behind, own_key, tail_sorted, sorted_from, sorted-put_among, found-put_among, found_over_present, found-untouched, sorted-untouched, sorted_over, rows_same}
-use Rattle.qe_overlay.proofs.Seen.{link_shape, tables_same, entries_own, entries_pairs}
+use Rattle.qe_overlay.proofs.Seen.{tables_same, entries_own, entries_pairs}
 use Rattle.qe_overlay.proofs.Steps.{every_entry, every_from, units, followed, table_still, all_here, stage_here, rows_step, pairs_step, last_step, rows_idle, pairs_idle, last_idle, rows_still, pairs_still, last_still, after_rows, after_pairs, after_last}
 use Rattle.qe_overlay.proofs.Undoing.{equal_itself}
 
@@ -193,7 +193,7 @@ last_here t (Some raised) last = ap (λ b. cond b (int_max raised last) last) (i
 
 -- ---- the tables after all changes
 
-module _ (schema : Schema) (accepted : IsSchema schema) (layers : List Layer) (fit : LayersFit schema (layers_in layers)) (tables : Tables) (below : FitsSchema schema tables) where
+module _ (schema : Schema) (sound : IsSound schema) (layers : List Layer) (fit : LayersFit schema (layers_in layers)) (tables : Tables) (below : FitsSchema schema tables) where
   model_ready : (t : ℕ) → is_link schema t ≡ false → SortedEntries (layers_in layers t).entries × OwnIds (table_at schema t) (layers_in layers t).entries × Sorted (table_at schema t) (tables.rows t)
   model_ready t model = (fit.order t, entries_own schema (layers_in layers) fit t model, sorted_from (table_at schema t) (tables.rows t) (below.order t))
 
@@ -222,7 +222,7 @@ module _ (schema : Schema) (accepted : IsSchema schema) (layers : List Layer) (f
       ∙ all_here pairs_step pairs_idle pairs_still schema layers t (tables.pairs t)
       ∙ table_still pairs_step pairs_idle pairs_still t t Counters (inr refl) b layer (followed (pairs_step t) (table_changes b Links (numbered t) layer) (followed (pairs_step t) (table_changes b Unlinks (numbered t) layer) there))
       ∙ ap (λ ps. followed (pairs_step t) (table_changes b Links (numbered t) layer) (followed (pairs_step t) (table_changes b Unlinks (numbered t) layer) ps)) same
-      ∙ pairs_here t (table_at schema t) b layer (tables.pairs t) (λ link. ((link_shape schema accepted t link).id, fit.order t, entries_pairs schema (layers_in layers) fit t link, below.pair_order t))
+      ∙ pairs_here t (table_at schema t) b layer (tables.pairs t) (λ link. ((sound.two_columns t link).id, fit.order t, entries_pairs schema (layers_in layers) fit t link, below.pair_order t))
 
   last_seen : (t : ℕ) → (after_all schema (settled_by schema layers) tables).last t ≡ (seen schema (layers_in layers) tables).last t
   last_seen t =
@@ -558,8 +558,8 @@ module _ (schema : Schema) (layers : List Layer) (fit : LayersFit schema (layers
       (free_both schema unlinks (links ++ counters) (stage_free schema Unlinks refl layers) (free_both schema links counters (stage_free schema Links refl layers) (stage_free schema Counters refl layers)) (after_all schema puts after_removes)))
 
 -- the changes of the layers make of the tables below those that are seen
-pub settles : (schema : Schema) (layers : List Layer) → Settles schema (layers_in layers) (settled_by schema layers)
-settles schema layers accepted fit = (all_right schema layers fit, λ tables below. (after_seen schema accepted layers fit tables below, all_free schema layers fit tables below))
+pub settles : (schema : Schema) (layers : List Layer) → SettlesBelow schema (layers_in layers) (settled_by schema layers)
+settles schema layers sound fit = (all_right schema layers fit, λ tables below. (after_seen schema sound layers fit tables below, all_free schema layers fit tables below))
 
 -- ---- the layers of the tables that the schema has
 
@@ -601,11 +601,11 @@ layer_past schema layers n t fit most least = by_found (slice_get layers t) refl
     by_found (Some layer) is = nothing_past schema t (past (slice_get_within layers t layer is) most) (layers_in layers) fit
 
 -- so do the changes of as many layers as the schema has tables
-pub settles_taken : (schema : Schema) (layers : List Layer) (n : ℕ) → (n < length layers → length schema.tables ≤ n) → Settles schema (layers_in layers) (settled_by schema (take n layers))
-settles_taken schema layers n most accepted fit =
+pub settles_taken : (schema : Schema) (layers : List Layer) (n : ℕ) → (n < length layers → length schema.tables ≤ n) → SettlesBelow schema (layers_in layers) (settled_by schema (take n layers))
+settles_taken schema layers n most sound fit =
     let same : layers_in (take n layers) ≡ layers_in layers = λ i t. same_first n t layers (λ least. layer_past schema layers n t fit most least) i in
     subst (λ (l : Layers). LayersFit schema l → (are_right schema (settled_by schema (take n layers)) ≡ true) × ((tables : Tables) → FitsSchema schema tables → (after_all schema (settled_by schema (take n layers)) tables ≡ seen schema l tables) × AreFree schema (settled_by schema (take n layers)) tables))
-    same (settles schema (take n layers) accepted) fit
+    same (settles schema (take n layers) sound) fit
 
 -- ---- of nothing there are no changes
 

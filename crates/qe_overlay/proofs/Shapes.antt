@@ -3,20 +3,20 @@ use Rattle.std.proofs.Common.{◌≡◌, List, [], ◌∷◌, Option, Some, None
 use Rattle.std.specs.Prelude.{IfSome, option_map}
 use Rattle.std.specs.List.{list_all}
 use Rattle.std.proofs.lemmas.Bool.{and_parts, and_from}
-use Rattle.qe_schema.specs.Schemas.{Schema}
-use Rattle.qe_tables.specs.Fits.{FitsSchema}
-use Rattle.qe_tables.specs.Tables.{Tables}
-use Rattle.qe_changes.specs.After.{after, after_all}
-use Rattle.qe_changes.specs.Right.{is_right, in_stages, are_right, IsFree, AreFree, Leads}
-use Rattle.qe_changes.specs.declared.Change.{Change}
-use Rattle.qe_changes.specs.declared.Change.TheVariants.{Remove, Put, Unlink, Link, Counter}
+use Rattle.qe_base.specs.Schemas.{Schema}
+use Rattle.qe_schema.specs.Fits.{FitsSchema}
+use Rattle.qe_schema.specs.Tables.{Tables}
+use Rattle.qe_view.specs.After.{after, after_all}
+use Rattle.qe_view.specs.Right.{is_right, in_stages, are_right, IsFree, AreFree, ChangesLead}
+use Rattle.qe_view.specs.declared.changes.Change.{Change}
+use Rattle.qe_view.specs.declared.changes.Change.TheVariants.{Remove, Put, Unlink, Link, Counter}
 use Rattle.qe_view.specs.Attached.{FitLayout, CanApply, OfShapes, shapes_of}
 use Rattle.qe_view.specs.Layouts.{Layout, layout_of}
 use Rattle.qe_view.specs.Versions.{Versions}
 use Rattle.qe_overlay.specs.Fits.{Stands, versions_over}
 use Rattle.qe_overlay.specs.Held.{Held, held_in, none_kept, layers_in}
 use Rattle.qe_overlay.specs.Layers.{seen}
-use Rattle.qe_overlay.specs.Settled.{Settles}
+use Rattle.qe_overlay.specs.Settled.{SettlesBelow}
 use Rattle.qe_overlay.proofs.Starting.{seen_none, empty_stands}
 use Rattle.qe_overlay.proofs.Views.{below_fits, of_schema}
 
@@ -79,11 +79,11 @@ module _ (schema : Schema) where
 
 -- ---- the changes of an overlay are such as may be applied, and make of the tables below those that are seen
 
-module _ (schema : Schema) (attached : Option Layout) (held : Held) (changes : List Change) (settles : Settles schema held.layers changes) where
-  leads : (told : Option Tables) → Stands schema attached told held → IfSome told (Leads (shapes_of (layout_of schema)) changes)
+module _ (schema : Schema) (attached : Option Layout) (held : Held) (changes : List Change) (settles : SettlesBelow schema held.layers changes) where
+  leads : (told : Option Tables) → Stands schema attached told held → IfSome told (ChangesLead (shapes_of (layout_of schema)) changes)
   leads None stands = tt
   leads (Some tables) stands =
-      let ready = (settles stands.accepted stands.now.0).1 tables (below_fits schema attached tables stands.attached_is stands.below) in
+      let ready = (settles stands.sound stands.now.0).1 tables (below_fits schema attached tables stands.attached_is stands.below) in
       record {
         free = free_shapes schema changes tables ready.1;
         fits = subst (FitsSchema (shapes_of (layout_of schema))) (sym (after_shapes schema changes tables ∙ ready.0)) (fits_shapes schema (seen schema held.layers tables) stands.now.1);
@@ -92,12 +92,12 @@ module _ (schema : Schema) (attached : Option Layout) (held : Held) (changes : L
   pub can_apply : (told : Option Tables) → Stands schema attached told held → CanApply attached told changes
   can_apply told stands =
       subst (λ (a : Option Layout). CanApply a told changes) (sym stands.attached_is)
-      (right_shapes schema changes (settles stands.accepted stands.now.0).0, leads told stands)
+      (right_shapes schema changes (settles stands.sound stands.now.0).0, leads told stands)
 
   seen_by : (told : Option Tables) → Stands schema attached told held → option_map (after_all (shapes_of (layout_of schema)) changes) told ≡ option_map (seen schema held.layers) told
   seen_by None stands = refl
   seen_by (Some tables) stands =
-      let ready = (settles stands.accepted stands.now.0).1 tables (below_fits schema attached tables stands.attached_is stands.below) in
+      let ready = (settles stands.sound stands.now.0).1 tables (below_fits schema attached tables stands.attached_is stands.below) in
       ap (λ (t : Tables). Some t) (after_shapes schema changes tables ∙ ready.0)
 
   -- once they are applied, the tables below are those that were seen
@@ -118,7 +118,7 @@ settled_versions schema told seen_before is =
     ∙ ap (λ (t : Option Tables). let versions : Versions = record { now = t; past = []; below = t } in versions) is
 
 pub settled_stands : (schema : Schema) (attached attached_now : Option Layout) (told told_now : Option Tables) (held : Held) → Stands schema attached told held → attached_now ≡ attached → FitLayout attached_now told_now → Stands schema attached_now told_now (held_in none_kept)
-settled_stands schema attached attached_now told told_now held stands same fit = empty_stands schema attached_now told_now stands.accepted (same ∙ stands.attached_is) fit
+settled_stands schema attached attached_now told told_now held stands same fit = empty_stands schema attached_now told_now stands.sound (same ∙ stands.attached_is) fit
 
 -- no changes leave the told tables
 pub none_applied : (attached : Option Layout) (told : Option Tables) (changes : List Change) → changes ≡ [] → OfShapes attached (λ shapes. told ≡ option_map (after_all shapes changes) told)

@@ -2,9 +2,9 @@
 use Rattle.std.proofs.Common.{◌≡◌, List, [], ◌∷◌, filter, Option, Some, None, Bool, true, false, cond, refl, ap, subst, sym}
 use Rattle.std.specs.Prelude.{IfSome}
 use Rattle.std.specs.List.Sorted.{IsStrictlySortedBy}
-use Rattle.qe_schema.specs.Schemas.{Schema}
-use Rattle.qe_tables.specs.Fits.{FitsSchema}
-use Rattle.qe_tables.specs.Tables.{Tables, table_at, is_link}
+use Rattle.qe_base.specs.Schemas.{Schema}
+use Rattle.qe_schema.specs.Fits.{FitsSchema}
+use Rattle.qe_schema.specs.Tables.{Tables, table_at, is_link}
 use Rattle.qe_view.specs.Attached.{FitLayout}
 use Rattle.qe_overlay.specs.Fits.{LayersFit, EmptyStands}
 use Rattle.qe_overlay.specs.Held.{layers_in}
@@ -35,8 +35,8 @@ unfolding IsStrictlySortedBy
 none_fit schema = record { order = λ t. tt; entries = λ t. tt; counters = λ t. tt }
 
 pub empty_stands : EmptyStands
-empty_stands schema attached told accepted is below = record {
-  accepted = accepted;
+empty_stands schema attached told sound is below = record {
+  sound = sound;
   attached_is = is;
   below = below;
   now = (none_fit schema, by_told told below);

@@ -7,13 +7,13 @@ use Rattle.std.proofs.lemmas.Bool.{eqb-true, ne_eqb}
 use Rattle.qe_base.specs.declared.value.Row.{Row}
 use Rattle.qe_base.specs.declared.value.TableId.{TableId}
 use Rattle.qe_base.specs.declared.value.Value.{Value}
-use Rattle.qe_schema.specs.Schemas.{Schema}
-use Rattle.qe_tables.specs.Pairs.{with_pair, without_pair}
-use Rattle.qe_tables.specs.Put.{put_among}
-use Rattle.qe_tables.specs.Tables.{Tables, table_at, is_link}
-use Rattle.qe_changes.specs.After.{after, after_all, without_id}
-use Rattle.qe_changes.specs.declared.Change.{Change}
-use Rattle.qe_changes.specs.declared.Change.TheVariants.{Remove, Put, Unlink, Link, Counter}
+use Rattle.qe_base.specs.Schemas.{Schema}
+use Rattle.qe_schema.specs.Pairs.{with_pair, without_pair}
+use Rattle.qe_schema.specs.Put.{put_among}
+use Rattle.qe_schema.specs.Tables.{Tables, table_at, is_link}
+use Rattle.qe_view.specs.After.{after, after_all, without_id}
+use Rattle.qe_view.specs.declared.changes.Change.{Change}
+use Rattle.qe_view.specs.declared.changes.Change.TheVariants.{Remove, Put, Unlink, Link, Counter}
 use Rattle.qe_overlay.specs.Held.{layers_in}
 use Rattle.qe_overlay.specs.Layers.{Entry, Layer, no_layer}
 use Rattle.qe_overlay.specs.Settled.{numbered, entry_changes, all_entries, counter_changes, table_changes, stage_from, stage_changes, settled_by}

@@ -15,7 +15,7 @@ use Rattle.qe_base.specs.ValueOrder.{row_cmp_total}
 use Rattle.qe_base.specs.declared.value.Row.{Row}
 use Rattle.qe_base.specs.declared.value.TableId.{TableId}
 use Rattle.qe_overlay.specs.Layers.{Entry, Layer, Layers, no_layer}
-use Rattle.qe_overlay.specs.Held.{Held, Kept, layers_in, with_layer, entry_at, with_entry, with_raised, with_before, with_last, undone, all_undone, past_of, held_in, changed_to, entered, raised, GoesBack}
+use Rattle.qe_overlay.specs.Held.{Held, KeptLayers, layers_in, with_layer, entry_at, with_entry, with_raised, with_before, with_last, undone, all_undone, past_of, held_in, changed_to, entered, raised, HeldGoesBack}
 use Rattle.qe_overlay.specs.declared.overlay.Undo.{Undo}
 use Rattle.qe_overlay.specs.declared.overlay.Undo.TheVariants.{Entered, Raised}
 
@@ -172,7 +172,7 @@ written layers log table layer undo within is =
     ∙ change_logged log undo (layers_in layers) (with_layer table layer (layers_in layers)) is
 
 -- what a change of entries makes of what is held
-pub entered_held : (start : Kept) (layers : List Layer) (log reserved logged : List Undo) (table : TableId) (id under : Row) (now : Option Row) (before : Option (Option Row)) (shown changed : Layer)
+pub entered_held : (start : KeptLayers) (layers : List Layer) (log reserved logged : List Undo) (table : TableId) (id under : Row) (now : Option Row) (before : Option (Option Row)) (shown changed : Layer)
     → held_in (record { layers = layers; log = log }) ≡ held_in start → table.0 < length layers → shown ≡ slice_index_or layers table.0 shown → IsStrictlySortedBy row_cmp (keys_of shown.entries)
     → under ≡ id → before ≡ entry_at id shown → changed ≡ with_entry id now shown → reserved ≡ log → logged ≡ reserved ++ Entered table under before ∷ []
     → held_in (record { layers = slice_set layers table.0 changed; log = logged }) ≡ entered table.0 id now (held_in start)
@@ -186,7 +186,7 @@ entered_held start layers log reserved logged table id under now before shown ch
     ∙ written layers log table.0 (with_entry id now (layers_in layers table.0)) (Entered table id (entry_at id (layers_in layers table.0))) within (entered_undone table id now (layers_in layers) ordered)
     ∙ ap (entered table.0 id now) held
 
-pub raised_held : (start : Kept) (layers : List Layer) (log reserved logged : List Undo) (table : TableId) (last : ℤ) (before : Option ℤ) (shown changed : Layer)
+pub raised_held : (start : KeptLayers) (layers : List Layer) (log reserved logged : List Undo) (table : TableId) (last : ℤ) (before : Option ℤ) (shown changed : Layer)
     → held_in (record { layers = layers; log = log }) ≡ held_in start → table.0 < length layers → shown ≡ slice_index_or layers table.0 shown
     → before ≡ shown.last → changed ≡ with_raised last shown → reserved ≡ log → logged ≡ reserved ++ Raised table before ∷ []
     → held_in (record { layers = slice_set layers table.0 changed; log = logged }) ≡ raised table.0 last (held_in start)
@@ -225,9 +225,9 @@ at_end (y ∷ xs) x ys = at_end xs x ys
 taken : (past xs : List Layers) (now x : Layers) (ys : List Layers) → past ++ now ∷ [] ≡ xs ++ x ∷ ys → take (length xs) (past ++ now ∷ []) ≡ xs
 taken past xs now x ys is = ap (take (length xs)) is ∙ take-append_seam xs (x ∷ ys)
 
-pub gone_back : (start after : Held) (mark : ℕ) → GoingBack start after → length after.past ≡ mark → mark ≤ length start.past → GoesBack mark start after
+pub gone_back : (start after : Held) (mark : ℕ) → GoingBack start after → length after.past ≡ mark → mark ≤ length start.past → HeldGoesBack mark start after
 gone_back start after mark going is most =
-    subst (λ n. GoesBack n start after) is (record {
+    subst (λ n. HeldGoesBack n start after) is (record {
       layers = ap (λ l. slice_get l (length after.past)) going.all ∙ at_end after.past after.layers going.later;
       past = sym (taken start.past after.past start.layers after.layers going.later going.all) ∙ take-append-le (length after.past) start.past (start.layers ∷ []) (subst (λ n. n ≤ length start.past) (sym is) most);
     })

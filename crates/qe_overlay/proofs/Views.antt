@@ -11,26 +11,26 @@ use Rattle.qe_base.specs.declared.schema.Choice.{Choice}
 use Rattle.qe_base.specs.declared.schema.Table.{Table}
 use Rattle.qe_base.specs.declared.value.Row.{Row}
 use Rattle.qe_base.specs.declared.value.Value.{Value}
-use Rattle.qe_schema.specs.Schemas.{Schema}
-use Rattle.qe_schema.specs.SchemaOf.{IsSchema}
-use Rattle.qe_tables.specs.Columns.{is_null, at_columns}
-use Rattle.qe_tables.specs.Fits.{FitsSchema, fit_columns, fits_column}
-use Rattle.qe_tables.specs.Tables.{Tables, no_rows, table_at, is_model, is_model_table, is_link, is_link_table, id_columns}
+use Rattle.qe_base.specs.Schemas.{Schema}
+use Rattle.qe_schema.specs.Sound.{IsSound}
+use Rattle.qe_schema.specs.Columns.{is_null, at_columns}
+use Rattle.qe_schema.specs.Fits.{FitsSchema, fit_columns, fits_column}
+use Rattle.qe_schema.specs.Tables.{Tables, no_rows, table_at, is_model, is_model_table, is_link, is_link_table, id_columns}
 use Rattle.qe_base.specs.declared.value.TableId.{TableId}
-use Rattle.qe_changes.specs.After.{after as after_change, rows_in, rows_at, is_wanted, pair_row}
-use Rattle.qe_changes.specs.Right.{has_table, is_row_of, is_id_of, is_pair_of, is_last_of, are_values_of}
-use Rattle.qe_changes.specs.declared.Change.TheVariants as change
+use Rattle.qe_view.specs.After.{after as after_change, rows_in, rows_at, is_wanted, pair_row}
+use Rattle.qe_view.specs.Right.{has_table, is_row_of, is_id_of, is_pair_of, is_last_of, are_values_of}
+use Rattle.qe_view.specs.declared.changes.Change.TheVariants as change
 use Rattle.qe_view.specs.Attached.{FitLayout, shapes_of, OfShapes}
 use Rattle.qe_view.specs.Layouts.{Layout, layout_of}
 use Rattle.qe_view.specs.Versions.{LeadsToFit, changed, GoesBack as VersionsGoBack}
 use Rattle.qe_overlay.specs.Fits.{FitsAs, FitsEntry, LayersFit, FitOver, versions_over, Stands, LiesOver}
-use Rattle.qe_overlay.specs.Held.{Held, changed_to, entered, raised, raised_over, with_raised, with_layer, with_entry, GoesBack}
+use Rattle.qe_overlay.specs.Held.{Held, changed_to, entered, raised, raised_over, with_raised, with_layer, with_entry, HeldGoesBack}
 use Rattle.qe_overlay.specs.Laid.{id_row, laid_over}
 use Rattle.qe_overlay.specs.Layers.{Entry, Layers, rows_and, present, over_rows, over_pairs, over_last, pair_of, seen}
 use Rattle.qe_overlay.proofs.Ids.{have_ids}
 use Rattle.qe_overlay.proofs.Pairs.{as_rows, over_as_rows, pairs_sorted, pairs_own}
 use Rattle.qe_overlay.proofs.Rows.{Sorted, OwnIds, sorted_from, laid_seen, all_laid}
-use Rattle.qe_overlay.proofs.Seen.{link_shape, entries_own, entries_pairs, put_fits, remove_fits, link_fits, unlink_fits, last_changed, still_fit, put_is, remove_is, link_is, unlink_is}
+use Rattle.qe_overlay.proofs.Seen.{entries_own, entries_pairs, put_fits, remove_fits, link_fits, unlink_fits, last_changed, still_fit, put_is, remove_is, link_is, unlink_is}
 
 -- tables that fit the layout of a schema fit it
 pub shapes_fit : (schema : Schema) (tables : Tables) → FitsSchema (shapes_of (layout_of schema)) tables → FitsSchema schema tables
@@ -75,7 +75,7 @@ module _ (schema : Schema) (attached : Option Layout) (held after : Held) (layer
 
   pub change_stands : (told : Option Tables) → Stands schema attached told held → LeadsToFit schema f (option_map (seen schema held.layers) told) → Stands schema attached told after
   change_stands told stands fits = subst (Stands schema attached told) (sym is) (record {
-    accepted = stands.accepted;
+    sound = stands.sound;
     attached_is = stands.attached_is;
     below = stands.below;
     now = fit_over told stands fits;
@@ -95,7 +95,7 @@ map-take f zero xs = refl
 map-take f (suc n) [] = refl
 map-take f (suc n) (x ∷ xs) = ap (λ l. f x ∷ l) (map-take f n xs)
 
-pub versions_back : (schema : Schema) (told : Option Tables) (mark : ℕ) (before after : Held) → GoesBack mark before after → VersionsGoBack mark (versions_over schema told before) (versions_over schema told after)
+pub versions_back : (schema : Schema) (told : Option Tables) (mark : ℕ) (before after : Held) → HeldGoesBack mark before after → VersionsGoBack mark (versions_over schema told before) (versions_over schema told after)
 versions_back schema told mark before after back = record {
   now = map-get (λ layers. option_map (seen schema layers) told) before.past before.layers mark after.layers back.layers;
   past = ap (map (λ layers. option_map (seen schema layers) told)) back.past ∙ map-take (λ layers. option_map (seen schema layers) told) mark before.past;
@@ -112,9 +112,9 @@ all-take P zero xs all = tt
 all-take P (suc n) [] all = tt
 all-take P (suc n) (x ∷ xs) all = (all.0, all-take P n xs all.1)
 
-pub back_stands : (schema : Schema) (attached : Option Layout) (told : Option Tables) (mark : ℕ) (before after : Held) → GoesBack mark before after → Stands schema attached told before → Stands schema attached told after
+pub back_stands : (schema : Schema) (attached : Option Layout) (told : Option Tables) (mark : ℕ) (before after : Held) → HeldGoesBack mark before after → Stands schema attached told before → Stands schema attached told after
 back_stands schema attached told mark before after back stands = record {
-  accepted = stands.accepted;
+  sound = stands.sound;
   attached_is = stands.attached_is;
   below = stands.below;
   now = all-get (FitOver schema told) (before.past ++ before.layers ∷ []) mark after.layers (all-push (FitOver schema told) before.past before.layers stands.past stands.now) back.layers;
@@ -146,12 +146,12 @@ link_is_none : (found : Option Table) → is_link_table found ≡ true → is_mo
 link_is_none None is = refl
 link_is_none (Some table) is = ap not is
 
-reads_over : (schema : Schema) (layers : Layers) (tables : Tables) (table : ℕ) → IsSchema schema → LayersFit schema layers → FitsSchema schema tables → ReadsOver schema layers tables table
-reads_over schema layers tables table accepted fit below = by_kind (is_link schema table) refl
+reads_over : (schema : Schema) (layers : Layers) (tables : Tables) (table : ℕ) → IsSound schema → LayersFit schema layers → FitsSchema schema tables → ReadsOver schema layers tables table
+reads_over schema layers tables table sound fit below = by_kind (is_link schema table) refl
   where
     by_kind : (b : Bool) → is_link schema table ≡ b → ReadsOver schema layers tables table
     by_kind true link =
-        let shape = link_shape schema accepted table link in
+        let shape = sound.two_columns table link in
         let none : tables.rows table ≡ [] = below.models table (link_is_none (slice_get schema.tables table) link) in
         let pairs = entries_pairs schema layers fit table link in
         let base : rows_in tables table ≡ as_rows (tables.pairs table) = ap (λ l. l ++ as_rows (tables.pairs table)) none in
@@ -175,13 +175,13 @@ reads_over schema layers tables table accepted fit below = by_kind (is_link sche
               ∙ ap (over_rows (table_at schema table) (layers table).entries) (sym base);
         }
 
-read_told : (schema : Schema) (layers : Layers) (tables : Tables) (table : ℕ) (chosen : Row → Bool) (found rows : List Row) → IsSchema schema → LayersFit schema layers → FitsSchema schema tables
+read_told : (schema : Schema) (layers : Layers) (tables : Tables) (table : ℕ) (chosen : Row → Bool) (found rows : List Row) → IsSound schema → LayersFit schema layers → FitsSchema schema tables
     → LiesOver (table_at schema table) (layers table).entries chosen found rows → found ≡ filter chosen (rows_in tables table) → rows ≡ filter chosen (rows_in (seen schema layers tables) table)
-read_told schema layers tables table chosen found rows accepted fit below (inl (none, same)) is =
-    let reads = reads_over schema layers tables table accepted fit below in
+read_told schema layers tables table chosen found rows sound fit below (inl (none, same)) is =
+    let reads = reads_over schema layers tables table sound fit below in
     same ∙ is ∙ ap (filter chosen) (sym (reads.over ∙ ap (λ es. over_rows (table_at schema table) es (rows_in tables table)) none ∙ filter_true (rows_in tables table)))
-read_told schema layers tables table chosen found rows accepted fit below (inr laid) is =
-    let reads = reads_over schema layers tables table accepted fit below in
+read_told schema layers tables table chosen found rows sound fit below (inr laid) is =
+    let reads = reads_over schema layers tables table sound fit below in
     laid ∙ ap (laid_over (table_at schema table) (layers table).entries chosen) is
     ∙ laid_seen (table_at schema table) (layers table).entries chosen (rows_in tables table) (fit.order table) reads.own reads.sorted
     ∙ ap (filter chosen) (sym reads.over)
@@ -191,14 +191,14 @@ pub load_gives : (schema : Schema) (attached : Option Layout) (told : Option Tab
     → IfSome (option_map (seen schema held.layers) told) (λ tables. rows ≡ rows_at columns keys table tables)
 load_gives schema attached None held table columns keys found rows stands lies is = tt
 load_gives schema attached (Some tables) held table columns keys found rows stands lies is =
-    read_told schema held.layers tables table (is_wanted columns keys) found rows stands.accepted stands.now.0 (below_fits schema attached tables stands.attached_is stands.below) lies is
+    read_told schema held.layers tables table (is_wanted columns keys) found rows stands.sound stands.now.0 (below_fits schema attached tables stands.attached_is stands.below) lies is
 
 pub scan_gives : (schema : Schema) (attached : Option Layout) (told : Option Tables) (held : Held) (table : ℕ) (found rows : List Row) → Stands schema attached told held
     → LiesOver (table_at schema table) (held.layers table).entries (λ row. true) found rows → IfSome told (λ tables. found ≡ rows_in tables table)
     → IfSome (option_map (seen schema held.layers) told) (λ tables. rows ≡ rows_in tables table)
 scan_gives schema attached None held table found rows stands lies is = tt
 scan_gives schema attached (Some tables) held table found rows stands lies is =
-    read_told schema held.layers tables table (λ row. true) found rows stands.accepted stands.now.0 (below_fits schema attached tables stands.attached_is stands.below) lies (is ∙ sym (filter_true (rows_in tables table)))
+    read_told schema held.layers tables table (λ row. true) found rows stands.sound stands.now.0 (below_fits schema attached tables stands.attached_is stands.below) lies (is ∙ sym (filter_true (rows_in tables table)))
     ∙ filter_true (rows_in (seen schema held.layers tables) table)
 
 -- ---- rows that fit
@@ -220,15 +220,15 @@ pair_fits choices columns first second a b is values =
 abbrev RowFits : Schema → ℕ → Row → Bool
 RowFits schema table row = fit_columns schema.choices (table_at schema table).columns row.values
 
-present_fit : (schema : Schema) (table : ℕ) (entries : List Entry) → IsSchema schema → (b : Bool) → is_link schema table ≡ b → AllByRecursion (FitsEntry schema table) entries → list_all (RowFits schema table) (present entries) ≡ true
-present_fit schema table [] accepted b kind fit = refl
-present_fit schema table (e ∷ entries) accepted b kind fit = by_now b kind e.1 (subst (λ b. FitsAs b schema table e) kind fit.0) (present_fit schema table entries accepted b kind fit.1)
+present_fit : (schema : Schema) (table : ℕ) (entries : List Entry) → IsSound schema → (b : Bool) → is_link schema table ≡ b → AllByRecursion (FitsEntry schema table) entries → list_all (RowFits schema table) (present entries) ≡ true
+present_fit schema table [] sound b kind fit = refl
+present_fit schema table (e ∷ entries) sound b kind fit = by_now b kind e.1 (subst (λ b. FitsAs b schema table e) kind fit.0) (present_fit schema table entries sound b kind fit.1)
   where
     by_now : (b : Bool) → is_link schema table ≡ b → (now : Option Row) → FitsAs b schema table (e.0, now) → list_all (RowFits schema table) (present entries) ≡ true → list_all (RowFits schema table) (rows_and (present entries) now) ≡ true
     by_now b kind None fits later = later
     by_now false model (Some row) fits later = both (RowFits schema table row) (list_all (RowFits schema table) (present entries)) (and_parts (is_model schema table) (RowFits schema table row) fits.1.0).1 later
     by_now true link (Some row) fits later =
-        let shape = link_shape schema accepted table link in
+        let shape = sound.two_columns table link in
         both (RowFits schema table row) (list_all (RowFits schema table) (present entries))
         (subst (λ (r : Row). RowFits schema table r ≡ true) (fits.0.1 ∙ sym fits.1)
         (pair_fits schema.choices (table_at schema table).columns shape.first shape.second (pair_of e.0).0 (pair_of e.0).1 shape.columns (and_parts (is_link schema table) _ fits.0.0).1))
@@ -239,7 +239,7 @@ pub read_fits : (schema : Schema) (attached : Option Layout) (told : Option Tabl
 read_fits schema attached told held table chosen found rows stands (inl (none, same)) fit = ap (list_all (RowFits schema table)) same ∙ fit
 read_fits schema attached told held table chosen found rows stands (inr laid) fit =
     ap (list_all (RowFits schema table)) laid
-    ∙ all_laid (RowFits schema table) (table_at schema table) (held.layers table).entries chosen found fit (present_fit schema table (held.layers table).entries stands.accepted (is_link schema table) refl (stands.now.0.entries table))
+    ∙ all_laid (RowFits schema table) (table_at schema table) (held.layers table).entries chosen found fit (present_fit schema table (held.layers table).entries stands.sound (is_link schema table) refl (stands.now.0.entries table))
 
 pub of_schema : (schema : Schema) (attached : Option Layout) (P : Schema → Type 0) → attached ≡ Some (layout_of schema) → OfShapes attached P → P (shapes_of (layout_of schema))
 of_schema schema attached P is holds = subst (λ (a : Option Layout). OfShapes a P) is holds
@@ -277,7 +277,7 @@ module _ (schema : Schema) (attached : Option Layout) (told : Option Tables) (he
   put_changes table row id id_is is right fits =
       let new = with_layer table.0 (with_entry (id_row (table_at schema table.0) row) (Some row) (held.layers table.0)) held.layers in
       let new_is = is ∙ ap (λ (k : Row). entered table.0 k (Some row) held) id_is in
-      let fit = put_fits schema held.layers stands.now.0 table row right (have_ids schema stands.accepted table.0 row right) in
+      let fit = put_fits schema held.layers stands.now.0 table row right (have_ids schema stands.sound table.0 row right) in
       let leads = λ (tables : Tables) (below : FitsSchema schema tables). put_is schema held.layers stands.now.0 tables below table row right in
       (versions_changed schema attached held after new (after_change schema (change.Put table row)) new_is fit leads told stands, change_stands schema attached held after new (after_change schema (change.Put table row)) new_is fit leads told stands fits)
 
@@ -296,7 +296,7 @@ module _ (schema : Schema) (attached : Option Layout) (told : Option Tables) (he
       let new = with_layer table.0 (with_entry (pair_row (a, b)) (Some (pair_row (a, b))) (held.layers table.0)) held.layers in
       let new_is = is ∙ ap (λ (k : Row). entered table.0 k (Some k) held) pair_is in
       let fit = link_fits schema held.layers stands.now.0 table (a, b) right in
-      let leads = λ (tables : Tables) (below : FitsSchema schema tables). link_is schema held.layers stands.now.0 tables below stands.accepted table (a, b) right in
+      let leads = λ (tables : Tables) (below : FitsSchema schema tables). link_is schema held.layers stands.now.0 tables below stands.sound table (a, b) right in
       (versions_changed schema attached held after new (after_change schema (change.Link table a b)) new_is fit leads told stands, change_stands schema attached held after new (after_change schema (change.Link table a b)) new_is fit leads told stands fits)
 
   pub unlink_changes : (table : TableId) (a b : Value) (pair : Row) → pair ≡ pair_row (a, b) → after ≡ entered table.0 pair None held → is_pair_of schema table.0 a b ≡ true
@@ -305,7 +305,7 @@ module _ (schema : Schema) (attached : Option Layout) (told : Option Tables) (he
       let new = with_layer table.0 (with_entry (pair_row (a, b)) None (held.layers table.0)) held.layers in
       let new_is = is ∙ ap (λ (k : Row). entered table.0 k None held) pair_is in
       let fit = unlink_fits schema held.layers stands.now.0 table (a, b) right in
-      let leads = λ (tables : Tables) (below : FitsSchema schema tables). unlink_is schema held.layers stands.now.0 tables below stands.accepted table (a, b) right in
+      let leads = λ (tables : Tables) (below : FitsSchema schema tables). unlink_is schema held.layers stands.now.0 tables below stands.sound table (a, b) right in
       (versions_changed schema attached held after new (after_change schema (change.Unlink table a b)) new_is fit leads told stands, change_stands schema attached held after new (after_change schema (change.Unlink table a b)) new_is fit leads told stands fits)
 
 -- the schema has the table of a row

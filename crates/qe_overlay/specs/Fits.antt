@@ -6,12 +6,12 @@ use Rattle.std.specs.Map.{keys_of}
 use Rattle.qe_base.specs.Values.{row_cmp}
 use Rattle.qe_base.specs.declared.schema.Table.{Table}
 use Rattle.qe_base.specs.declared.value.Row.{Row}
-use Rattle.qe_schema.specs.Schemas.{Schema}
-use Rattle.qe_schema.specs.SchemaOf.{IsSchema}
-use Rattle.qe_tables.specs.Fits.{FitsSchema}
-use Rattle.qe_tables.specs.Tables.{Tables, table_at, is_link, id_of}
-use Rattle.qe_changes.specs.After.{pair_row}
-use Rattle.qe_changes.specs.Right.{is_row_of, is_id_of, is_pair_of, is_last_of}
+use Rattle.qe_base.specs.Schemas.{Schema}
+use Rattle.qe_schema.specs.Sound.{IsSound}
+use Rattle.qe_schema.specs.Fits.{FitsSchema}
+use Rattle.qe_schema.specs.Tables.{Tables, table_at, is_link, id_of}
+use Rattle.qe_view.specs.After.{pair_row}
+use Rattle.qe_view.specs.Right.{is_row_of, is_id_of, is_pair_of, is_last_of}
 use Rattle.qe_view.specs.Attached.{FitLayout}
 use Rattle.qe_view.specs.Layouts.{Layout, layout_of}
 use Rattle.qe_view.specs.Versions.{Versions}
@@ -25,11 +25,11 @@ abbrev pub IsRowAt : Schema → ℕ → Row → Row → Type 0
 IsRowAt schema table id row = (is_row_of schema table row ≡ true) × (id_of (table_at schema table) row ≡ id.values)
 
 -- a pair of this link table, as a row
-abbrev pub IsPairRow : Schema → ℕ → Row → Type 0
-IsPairRow schema table row = (is_pair_of schema table (pair_of row).0 (pair_of row).1 ≡ true) × (pair_row (pair_of row) ≡ row)
+abbrev pub IsPairOf : Schema → ℕ → Row → Type 0
+IsPairOf schema table row = (is_pair_of schema table (pair_of row).0 (pair_of row).1 ≡ true) × (pair_row (pair_of row) ≡ row)
 
 abbrev pub FitsAs : Bool → Schema → ℕ → Entry → Type 0
-FitsAs true schema table entry = IsPairRow schema table entry.0 × IfSome entry.1 (λ row. row ≡ entry.0)
+FitsAs true schema table entry = IsPairOf schema table entry.0 × IfSome entry.1 (λ row. row ≡ entry.0)
 FitsAs false schema table entry = (is_id_of schema table entry.0 ≡ true) × IfSome entry.1 (IsRowAt schema table entry.0)
 
 -- a pair of a link table, or an id of a model with a row of that id
@@ -51,7 +51,7 @@ versions_over schema told held = record { now = option_map (seen schema held.lay
 
 -- what is below is attached with the layout of the schema, and all layers fit
 pub record Stands (schema : Schema) (attached : Option Layout) (told : Option Tables) (held : Held) : Type 0 where
-  pub accepted : IsSchema schema
+  pub sound : IsSound schema
   pub attached_is : attached ≡ Some (layout_of schema)
   pub below : FitLayout attached told
   pub now : FitOver schema told held.layers
@@ -68,7 +68,7 @@ stands_fit schema attached (Some tables) held stands = stands.now.1
 
 -- an overlay without changes stands over what is attached with the layout of the schema
 abbrev pub EmptyStands : Type 0
-EmptyStands = (schema : Schema) (attached : Option Layout) (told : Option Tables) → IsSchema schema → attached ≡ Some (layout_of schema) → FitLayout attached told → Stands schema attached told (held_in none_kept)
+EmptyStands = (schema : Schema) (attached : Option Layout) (told : Option Tables) → IsSound schema → attached ≡ Some (layout_of schema) → FitLayout attached told → Stands schema attached told (held_in none_kept)
 
 -- of layers that fit, those of some tables fit too
 abbrev pub NarrowedFit : Type 0

@@ -21,7 +21,7 @@ abbrev pub layers_in : List Layer → Layers
 layers_in layers = λ table. unwrap_or (slice_get layers table) no_layer
 
 -- what is kept of that: a list of layers, and what takes each change back, the oldest first
-pub record Kept : Type 0 where
+pub record KeptLayers : Type 0 where
   pub layers : List Layer
   pub log : List Undo
 
@@ -84,15 +84,15 @@ past_of [] layers = []
 past_of (undo ∷ later) layers = all_undone (undo ∷ later) layers ∷ past_of later layers
 
 -- what the kept lists stand for
-abbrev pub held_in : Kept → Held
+abbrev pub held_in : KeptLayers → Held
 held_in kept = record { layers = layers_in kept.layers; past = past_of kept.log (layers_in kept.layers) }
 
 -- nothing was changed
-abbrev pub none_kept : Kept
+abbrev pub none_kept : KeptLayers
 none_kept = record { layers = []; log = [] }
 
 -- all changes from this number on were taken back
-pub record GoesBack (mark : ℕ) (before after : Held) : Type 0 where
+pub record HeldGoesBack (mark : ℕ) (before after : Held) : Type 0 where
   pub layers : slice_get (before.past ++ before.layers ∷ []) mark ≡ Some after.layers
   pub past : after.past ≡ take mark before.past
 

@@ -5,7 +5,7 @@ use Rattle.std.specs.Map.{values_of}
 use Rattle.qe_base.specs.Values.{row_cmp}
 use Rattle.qe_base.specs.declared.schema.Table.{Table}
 use Rattle.qe_base.specs.declared.value.Row.{Row}
-use Rattle.qe_tables.specs.Tables.{id_of}
+use Rattle.qe_schema.specs.Tables.{id_of}
 use Rattle.qe_overlay.specs.Layers.{Entry, present, is_entered}
 
 -- the id of a row, as a row

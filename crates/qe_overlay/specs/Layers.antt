@@ -5,11 +5,11 @@ use Rattle.std.specs.Int.{int_max}
 use Rattle.qe_base.specs.declared.value.Row.{Row}
 use Rattle.qe_base.specs.declared.value.Value.{Value}
 use Rattle.qe_base.specs.declared.schema.Table.{Table}
-use Rattle.qe_schema.specs.Schemas.{Schema}
-use Rattle.qe_tables.specs.Columns.{Values, value_at, are_same}
-use Rattle.qe_tables.specs.Pairs.{with_pair, both_values}
-use Rattle.qe_tables.specs.Put.{put_among}
-use Rattle.qe_tables.specs.Tables.{Tables, table_at, is_link, id_of}
+use Rattle.qe_base.specs.Schemas.{Schema}
+use Rattle.qe_schema.specs.Columns.{Values, value_at, are_same}
+use Rattle.qe_schema.specs.Pairs.{with_pair, both_values}
+use Rattle.qe_schema.specs.Put.{put_among}
+use Rattle.qe_schema.specs.Tables.{Tables, table_at, is_link, id_of}
 
 -- under an id, the row that is there now, or that none is; a pair of a link table stands here as a row
 abbrev pub Entry : Type 0

@@ -2,15 +2,15 @@
 use Rattle.std.specs.Prelude.{◌≡◌, ℕ, ℤ, Bool, true, List, [], ◌∷◌, ◌++◌, Option, Some, None, suc, if◌then◌else◌}
 use Rattle.qe_base.specs.declared.value.Row.{Row}
 use Rattle.qe_base.specs.declared.value.TableId.{TableId}
-use Rattle.qe_schema.specs.Schemas.{Schema}
-use Rattle.qe_schema.specs.SchemaOf.{IsSchema}
-use Rattle.qe_tables.specs.Columns.{value_at}
-use Rattle.qe_tables.specs.Fits.{FitsSchema}
-use Rattle.qe_tables.specs.Tables.{Tables, is_link}
-use Rattle.qe_changes.specs.After.{after_all}
-use Rattle.qe_changes.specs.Right.{are_right, AreFree}
-use Rattle.qe_changes.specs.declared.Change.{Change}
-use Rattle.qe_changes.specs.declared.Change.TheVariants.{Remove, Put, Unlink, Link, Counter}
+use Rattle.qe_base.specs.Schemas.{Schema}
+use Rattle.qe_schema.specs.Sound.{IsSound}
+use Rattle.qe_schema.specs.Columns.{value_at}
+use Rattle.qe_schema.specs.Fits.{FitsSchema}
+use Rattle.qe_schema.specs.Tables.{Tables, is_link}
+use Rattle.qe_view.specs.After.{after_all}
+use Rattle.qe_view.specs.Right.{are_right, AreFree}
+use Rattle.qe_view.specs.declared.changes.Change.{Change}
+use Rattle.qe_view.specs.declared.changes.Change.TheVariants.{Remove, Put, Unlink, Link, Counter}
 use Rattle.qe_overlay.specs.Fits.{LayersFit}
 use Rattle.qe_overlay.specs.Layers.{Entry, Layer, Layers, seen}
 use Rattle.qe_overlay.specs.declared.changes.Stage.{Stage}
@@ -59,7 +59,7 @@ settled_by schema layers =
     stage_changes schema Removes layers ++ (stage_changes schema Puts layers ++ (stage_changes schema Unlinks layers ++ (stage_changes schema Links layers ++ stage_changes schema Counters layers)))
 
 -- The changes are right, and make of tables that fit those that are seen, each put to an id that is free by then.
-abbrev pub Settles : Schema → Layers → List Change → Type 0
-Settles schema layers changes =
-    IsSchema schema → LayersFit schema layers
+abbrev pub SettlesBelow : Schema → Layers → List Change → Type 0
+SettlesBelow schema layers changes =
+    IsSound schema → LayersFit schema layers
     → (are_right schema changes ≡ true) × ((tables : Tables) → FitsSchema schema tables → (after_all schema changes tables ≡ seen schema layers tables) × AreFree schema changes tables)

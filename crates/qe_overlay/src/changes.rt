@@ -1,14 +1,13 @@
 //! The changes that make of the tables below those that are seen.
 ghost use Rattle.std.specs.Prelude.{◌≡◌, ◌<◌, ◌++◌, length, IfOk, OnOk};
-ghost use Rattle.qe_tables.specs.Tables.{is_link as has_pairs};
+ghost use Rattle.qe_schema.specs.Tables.{is_link as has_pairs};
 ghost use Rattle.qe_overlay.specs.Settled.{entry_changes, all_entries, counter_changes, table_changes, stage_changes, settled_by};
 
 use crate::layer::Layer;
 use qe_base::{Row, TableId};
-use qe_changes::Change;
-use qe_rows::value_in;
 use qe_schema::Schema;
 use qe_text::{Items, Memory};
+use qe_view::{Change, value_in};
 use std::alloc::Global;
 use std::collections::BTreeMap;
 

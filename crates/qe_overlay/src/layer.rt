@@ -3,16 +3,16 @@ ghost use Rattle.std.specs.Prelude.{◌≡◌, [], ◌++◌, filter, true, IfOk,
 ghost use Rattle.std.specs.List.Sorted.{IsStrictlySortedBy};
 ghost use Rattle.std.specs.Map.{keys_of, values_of};
 ghost use Rattle.qe_base.specs.Values.{row_cmp};
-ghost use Rattle.qe_changes.specs.After.{is_wanted as has_wanted};
-ghost use Rattle.qe_tables.specs.Tables.{id_columns as columns_of_id};
+ghost use Rattle.qe_view.specs.After.{is_wanted as has_wanted};
+ghost use Rattle.qe_schema.specs.Tables.{id_columns as columns_of_id};
 ghost use Rattle.qe_overlay.specs.Fits.{LiesOver};
 ghost use Rattle.qe_overlay.specs.Laid.{row_if, put_in, untouched};
 ghost use Rattle.qe_overlay.specs.Layers.{no_layer, present, over_last};
 ghost use Rattle.qe_overlay.specs.Held.{entry_at, with_entry, with_before, with_raised, with_last};
 
 use qe_base::{Row, Rows, Table};
-use qe_rows::{id_row, is_wanted};
 use qe_text::{Items, Memory};
+use qe_view::{id_row, is_wanted};
 use std::alloc::Global;
 use std::collections::BTreeMap;
 use std::marker::Model;

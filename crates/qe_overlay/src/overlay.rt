@@ -1,18 +1,17 @@
 //! What is entered of all tables, and how it is taken back.
 ghost use Rattle.std.specs.Prelude.{◌≡◌, ◌≤◌, ◌<◌, ◌+◌, ◌∷◌, ◌++◌, [], length, true, IfOk, OnOk, OnErr, None, Some};
-ghost use Rattle.qe_changes.specs.After.{is_wanted};
+ghost use Rattle.qe_view.specs.After.{is_wanted};
 ghost use Rattle.qe_overlay.specs.Fits.{LiesOver};
 ghost use Rattle.qe_overlay.specs.Layers.{no_layers, over_last};
-ghost use Rattle.qe_overlay.specs.Settled.{Settles};
-ghost use Rattle.qe_overlay.specs.Held.{held_in, layers_in, none_kept, entered, raised, undone, GoesBack, is_listed as has_number, narrowed};
+ghost use Rattle.qe_overlay.specs.Settled.{SettlesBelow};
+ghost use Rattle.qe_overlay.specs.Held.{held_in, layers_in, none_kept, entered, raised, undone, HeldGoesBack, is_listed as has_number, narrowed};
 
 use crate::changes::all_changes;
 use crate::layer::Layer;
 use qe_base::{Row, Rows, Table, TableId};
-use qe_changes::Change;
 use qe_schema::Schema;
 use qe_text::{Items, Memory};
-use qe_view::Mark;
+use qe_view::{Change, Mark};
 use std::alloc::Global;
 use std::marker::Model;
 
@@ -42,9 +41,9 @@ pub struct Overlay {
 }
 
 impl Model for Overlay {
-    ghost use Rattle.qe_overlay.specs.Held.{Kept};
+    ghost use Rattle.qe_overlay.specs.Held.{KeptLayers};
 
-    ghost Value = { Kept };
+    ghost Value = { KeptLayers };
 
     ghost view = { λ o. record { layers = o.layers.items; log = o.log.items } };
 }
@@ -147,7 +146,7 @@ impl Overlay {
     /// Takes back all changes after a mark. It takes no memory.
     pub fn back(&mut self, to: Mark)
         requires { to.0 ≤ length (held_in self.old).past }
-        ensures { GoesBack to.0 (held_in self.old) (held_in self.new) }
+        ensures { HeldGoesBack to.0 (held_in self.old) (held_in self.new) }
     {
         'changes: while self.mark().0 > to.0 {
             self.undo_last();
@@ -241,7 +240,7 @@ impl Overlay {
 
     /// The changes that make of the tables below those that are seen.
     pub fn changes(&self, schema: &Schema) -> Result<Items<Change>, Memory>
-        ensures settles { IfOk result (λ changes. Settles schema.now (held_in self.now).layers changes) }
+        ensures settles { IfOk result (λ changes. SettlesBelow schema.now (held_in self.now).layers changes) }
         ensures none { IfOk result (λ changes. (held_in self.now).layers ≡ no_layers → changes ≡ []) }
     {
         let count = self.layers.len().min(schema.tables() as usize);

@@ -1,21 +1,19 @@
 //! The tables of a connector, seen through an overlay.
 ghost use Rattle.std.specs.Prelude.{◌≡◌, true, false, [], option_map, IsErrOf, OnOk, OnErr};
 ghost use Rattle.qe_base.specs.Causes.{HasCause};
-ghost use Rattle.qe_changes.specs.After.{after_all};
-ghost use Rattle.qe_changes.specs.Answers.{IsMisfit};
-ghost use Rattle.qe_changes.specs.Calls.{AtMost, with_apply};
-ghost use Rattle.qe_changes.specs.Right.{has_table};
-ghost use Rattle.qe_tables.specs.Tables.{table_at};
+ghost use Rattle.qe_view.specs.After.{after_all};
+ghost use Rattle.qe_view.specs.Answers.{IsMisfit};
+ghost use Rattle.qe_view.specs.Calls.{AtMost, with_apply};
+ghost use Rattle.qe_view.specs.Right.{has_table};
+ghost use Rattle.qe_schema.specs.Tables.{table_at};
 ghost use Rattle.qe_view.specs.Attached.{FitLayout, CanApply, OfShapes};
 
 use crate::layer::id_columns;
 use crate::overlay::Overlay;
 use qe_base::{Row, Rows, Table, TableId, Value};
-use qe_changes::{Change, ConnFault};
-use qe_rows::{id_row, pair_row};
 use qe_schema::Schema;
 use qe_text::{Items, Memory};
-use qe_view::{Connector, Mark, View};
+use qe_view::{Change, ConnFault, Connector, Mark, View, id_row, pair_row};
 
 /// The tables that a connector keeps, with the changes of an overlay. Changes stay in the overlay, and each
 /// reading makes one call below.

@@ -23,14 +23,14 @@ use Rattle.qe_base.specs.declared.answer.Answer.{Answer}
 use Rattle.qe_base.specs.declared.answer.Answer as answer
 use Rattle.qe_base.specs.declared.write.Op.{Op}
 use Rattle.qe_base.specs.declared.write.Op.TheVariants as op
-use Rattle.qe_schema.specs.Schemas.{Schema, link_of}
-use Rattle.qe_tables.specs.Tables.{Tables, table_at}
-use Rattle.qe_reading.specs.Related.{field_at, other_table, are_paired, id_value, is_some_such, is_related_by, related, first_row, one_related, is_to_many}
+use Rattle.qe_base.specs.Schemas.{Schema, link_of}
+use Rattle.qe_schema.specs.Tables.{Tables, table_at, field_at}
+use Rattle.qe_reading.specs.Related.{other_table, are_paired, id_value, is_some_such, is_related_by, related, first_row, one_related, is_to_many}
 use Rattle.qe_reading.specs.Truth.{Says, truth_step, truth_of, of_many, yes_if, is_absent, is_yes_of, is_yes}
 use Rattle.qe_reading.specs.Order.{value_along, end_value, order_cmp, rows_cmp, sorted_by}
 use Rattle.qe_reading.specs.Page.{is_at, page_of}
 use Rattle.qe_reading.specs.Look.{looked_up}
-use Rattle.qe_reading.specs.Shape.{Named, Shows, ShowsChild, then_ok, gathered, columns_shown, counts_shown, field_name, one_shown, all_shown, child_shown, child_step, pick_step, shape_of}
+use Rattle.qe_reading.specs.Shape.{NamedAnswer, Shows, ShowsChild, then_ok, gathered, columns_shown, counts_shown, field_name, one_shown, all_shown, child_shown, child_step, pick_step, shape_of}
 use Rattle.qe_reading.specs.Read.{found_at, with_one, row_or_missing, rows_for, read_of}
 
 module _ (schema : Schema) (a b : Tables) (rows : (table : ℕ) → a.rows table ≡ b.rows table) (pairs : (table : ℕ) → a.pairs table ≡ b.pairs table) where
@@ -100,7 +100,7 @@ module _ (schema : Schema) (a b : Tables) (rows : (table : ℕ) → a.rows table
 
   same_pick : (pick : Pick-F ShowsChild Shows) (table : ℕ) (row : Row) → pick_step schema a pick table row ≡ pick_step schema b pick table row
   same_pick pick table row =
-      ap (λ (counts : List Named). then_ok (λ children. answer.Object (columns_shown (table_at schema table) pick.columns row ++ counts ++ children)) (gathered (map (λ child. child table row) pick.children))) (same_counts table pick.counts row)
+      ap (λ (counts : List NamedAnswer). then_ok (λ children. answer.Object (columns_shown (table_at schema table) pick.columns row ++ counts ++ children)) (gathered (map (λ child. child table row) pick.children))) (same_counts table pick.counts row)
 
   same_shape : shape_of schema a ≡ shape_of schema b
   same_shape = λ i. fold-Pick ShowsChild Shows (λ child table row. same_child child table row i) (λ pick table row. same_pick pick table row i)

@@ -6,8 +6,8 @@ use Rattle.qe_base.specs.declared.value.Row.{Row}
 use Rattle.qe_base.specs.declared.query.Filter.{Filter}
 use Rattle.qe_base.specs.declared.query.Filter.TheVariants as filter
 use Rattle.qe_base.specs.declared.query.Quant.TheVariants as quant
-use Rattle.qe_schema.specs.Schemas.{Schema}
-use Rattle.qe_tables.specs.Tables.{Tables}
+use Rattle.qe_base.specs.Schemas.{Schema}
+use Rattle.qe_schema.specs.Tables.{Tables}
 use Rattle.qe_reading.specs.declared.Truth.{Truth}
 use Rattle.qe_reading.specs.declared.Truth.TheVariants.{Yes, No, Unknown}
 use Rattle.qe_reading.specs.Related.{other_table, related}

@@ -10,8 +10,8 @@ use Rattle.qe_base.specs.declared.query.Pick.{Pick, roll-Pick}
 use Rattle.qe_base.specs.declared.query.Child.{Child, roll-Child}
 use Rattle.qe_base.specs.declared.query.Child.TheOpen.{Child-F, Pick-F}
 use Rattle.qe_base.specs.declared.query.Child.TheFolds.{fold-roll-Pick, fold-roll-Child}
-use Rattle.qe_schema.specs.Schemas.{Schema}
-use Rattle.qe_tables.specs.Tables.{Tables}
+use Rattle.qe_base.specs.Schemas.{Schema}
+use Rattle.qe_schema.specs.Tables.{Tables}
 use Rattle.qe_reading.specs.Truth.{Says, truth_of, truth_step}
 use Rattle.qe_reading.specs.Fits as fitting
 use Rattle.qe_reading.specs.Fits.{Fitting, FittingChild, filter_step, filter_fits, pick_fits, child_fits}

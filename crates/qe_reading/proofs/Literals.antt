@@ -22,7 +22,7 @@ use Rattle.qe_base.specs.declared.answer.Answer as answer
 use Rattle.qe_base.specs.declared.answer.Rule.{Rule}
 use Rattle.qe_base.specs.declared.answer.Rule.TheVariants as rule
 use Rattle.qe_base.specs.declared.write.Op.TheVariants as op
-use Rattle.qe_tables.specs.Tables.{table_at}
+use Rattle.qe_schema.specs.Tables.{table_at}
 use Rattle.qe_reading.specs.declared.Truth.TheVariants.{Yes, No, Unknown}
 use Rattle.qe_reading.specs.Related.{other_table, related, one_related, first_row, is_to_many}
 use Rattle.qe_reading.specs.Truth.{Says, truth_of, truth_step, is_yes}

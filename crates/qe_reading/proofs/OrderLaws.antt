@@ -10,10 +10,10 @@ use Rattle.qe_base.specs.Values.{value_cmp}
 use Rattle.qe_base.specs.ValueOrder.{value_cmp_total}
 use Rattle.qe_base.specs.declared.value.Row.{Row}
 use Rattle.qe_base.specs.declared.query.OrderBy.{OrderBy}
-use Rattle.qe_schema.specs.Schemas.{Schema}
-use Rattle.qe_tables.specs.Columns.{values_cmp}
-use Rattle.qe_tables.specs.Tables.{Tables, table_at, id_of}
-use Rattle.qe_tables.specs.Fits.{Ascending}
+use Rattle.qe_base.specs.Schemas.{Schema}
+use Rattle.qe_schema.specs.Columns.{values_cmp}
+use Rattle.qe_schema.specs.Tables.{Tables, table_at, id_of}
+use Rattle.qe_schema.specs.Fits.{Ascending}
 use Rattle.qe_reading.specs.Look.{looked_up, whole_look}
 use Rattle.qe_reading.specs.Truth.{is_yes}
 use Rattle.qe_reading.specs.Order.{value_by, place_of, directed, order_cmp, rows_cmp, ordered}

@@ -9,11 +9,11 @@ use Rattle.qe_base.specs.declared.schema.Table.{Table}
 use Rattle.qe_base.specs.declared.query.Look.{Look}
 use Rattle.qe_base.specs.declared.query.Page.{Page}
 use Rattle.qe_base.specs.declared.query.Unique.{Unique}
-use Rattle.qe_schema.specs.Schemas.{Schema}
-use Rattle.qe_tables.specs.Columns.{at_columns, are_same}
-use Rattle.qe_tables.specs.Tables.{Tables, table_at}
-use Rattle.qe_reading.specs.Part.{IsPart, Done, Kept, Dropped}
-use Rattle.qe_reading.specs.Related.{related, other_table, is_related_by, field_at}
+use Rattle.qe_base.specs.Schemas.{Schema}
+use Rattle.qe_schema.specs.Columns.{at_columns, are_same}
+use Rattle.qe_schema.specs.Tables.{Tables, table_at, field_at}
+use Rattle.qe_reading.specs.Part.{IsPart, Empty, With, Without}
+use Rattle.qe_reading.specs.Related.{related, other_table, is_related_by}
 use Rattle.qe_reading.specs.Truth.{is_yes, truth_of, matching}
 use Rattle.qe_reading.specs.Order.{rows_cmp, ordered}
 use Rattle.qe_reading.specs.Page.{AreDistinct, one_of_each, distinct_by, turned, is_backward, is_at, kept_from, from_first, from_cursor, front_of, part_of, page_of}
@@ -25,20 +25,20 @@ pub related_part : (schema : Schema) (tables : Tables) (table number : ℕ) (row
 related_part schema tables table number row = part_filter (is_related_by schema tables (field_at schema table number) row) (tables.rows (other_table schema table number))
 
 each_part : (columns : List ℕ) (rows : List Row) → IsPart (one_of_each columns rows) rows
-each_part columns [] = Done
-each_part columns (row ∷ rows) = Kept (part_part (part_filter (λ later. not (are_same (at_columns columns row) (at_columns columns later))) (one_of_each columns rows)) (each_part columns rows))
+each_part columns [] = Empty
+each_part columns (row ∷ rows) = With (part_part (part_filter (λ later. not (are_same (at_columns columns row) (at_columns columns later))) (one_of_each columns rows)) (each_part columns rows))
 
 distinct_part : (columns : List ℕ) (rows : List Row) → IsPart (distinct_by columns rows) rows
 distinct_part [] rows = part_all rows
 distinct_part (column ∷ columns) rows = each_part (column ∷ columns) rows
 
 first_part : (test : Row → Bool) (rows : List Row) → IsPart (from_first test rows) rows
-first_part test [] = Done
+first_part test [] = Empty
 first_part test (row ∷ rows) = by (test row) (first_part test rows)
   where
     by : (here : Bool) → IsPart (from_first test rows) rows → IsPart (kept_from here (row ∷ rows) (from_first test rows)) (row ∷ rows)
     by true later = part_all (row ∷ rows)
-    by false later = Dropped later
+    by false later = Without later
 
 cursor_part : (table : Table) (cursor : Option Unique) (rows : List Row) → IsPart (from_cursor table cursor rows) rows
 cursor_part table None rows = part_all rows
@@ -59,9 +59,9 @@ pub page_part : (table : Table) (page : Page) (rows : List Row) → IsPart (page
 page_part table page rows = part_part (turned_part table page (is_backward page.take) (distinct_by page.distinct rows)) (distinct_part page.distinct rows)
 
 all_of_part : (P : Row → Type 0) {xs ys : List Row} → IsPart xs ys → AllByRecursion P ys → AllByRecursion P xs
-all_of_part P Done all = tt
-all_of_part P (Kept p) all = (all.0, all_of_part P p all.1)
-all_of_part P (Dropped p) all = all_of_part P p all.1
+all_of_part P Empty all = tt
+all_of_part P (With p) all = (all.0, all_of_part P p all.1)
+all_of_part P (Without p) all = all_of_part P p all.1
 
 all_match : (test : Row → Bool) (rows : List Row) → AllByRecursion (λ row. test row ≡ true) (filter test rows)
 all_match test [] = tt
@@ -93,9 +93,9 @@ page_length table page count rows e =
     omega (arith, long)
 
 distinct_part_of : (columns : List ℕ) {xs ys : List Row} → IsPart xs ys → AreDistinct columns ys → AreDistinct columns xs
-distinct_part_of columns Done distinct = distinct
-distinct_part_of columns (Kept {x} p) distinct = (all_of_part (λ later. are_same (at_columns columns x) (at_columns columns later) ≡ false) p distinct.0, distinct_part_of columns p distinct.1)
-distinct_part_of columns (Dropped p) distinct = distinct_part_of columns p distinct.1
+distinct_part_of columns Empty distinct = distinct
+distinct_part_of columns (With {x} p) distinct = (all_of_part (λ later. are_same (at_columns columns x) (at_columns columns later) ≡ false) p distinct.0, distinct_part_of columns p distinct.1)
+distinct_part_of columns (Without p) distinct = distinct_part_of columns p distinct.1
 
 AreDistinct-filter : (columns : List ℕ) (test : Row → Bool) (rows : List Row) → AreDistinct columns rows → AreDistinct columns (filter test rows)
 AreDistinct-filter columns test rows distinct = distinct_part_of columns (part_filter test rows) distinct

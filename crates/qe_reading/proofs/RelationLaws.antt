@@ -14,9 +14,9 @@ use Rattle.qe_base.specs.declared.value.Value.{Value}
 use Rattle.qe_base.specs.declared.value.Value.TheVariants.{Null, Text, Bool as Truth, Int, Moment, Blob, Member}
 use Rattle.qe_base.specs.declared.schema.Field.TheVariants.{Holder, Target}
 use Rattle.qe_base.specs.declared.schema.Relation.{Relation}
-use Rattle.qe_schema.specs.Schemas.{Schema}
-use Rattle.qe_tables.specs.Columns.{Values, is_null, has_null, are_same, at_columns}
-use Rattle.qe_tables.specs.Tables.{Tables}
+use Rattle.qe_base.specs.Schemas.{Schema}
+use Rattle.qe_schema.specs.Columns.{Values, is_null, has_null, are_same, at_columns}
+use Rattle.qe_schema.specs.Tables.{Tables}
 use Rattle.qe_reading.specs.Related.{refers, is_referred, relation_at, is_some_such, is_related}
 
 null_by_rank : (value : Value) → is_null value ≡ (rank value == 0)

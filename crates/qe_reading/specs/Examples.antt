@@ -29,9 +29,9 @@ use Rattle.qe_base.specs.declared.query.Test.TheVariants as test
 use Rattle.qe_base.specs.declared.query.Unique.{Unique}
 use Rattle.qe_base.specs.declared.answer.Answer.{Answer}
 use Rattle.qe_base.specs.declared.answer.Answer as answer
-use Rattle.qe_schema.specs.Schemas.{Schema}
-use Rattle.qe_tables.specs.Columns.{value_at}
-use Rattle.qe_tables.specs.Tables.{Tables}
+use Rattle.qe_base.specs.Schemas.{Schema}
+use Rattle.qe_schema.specs.Columns.{value_at}
+use Rattle.qe_schema.specs.Tables.{Tables}
 
 -- ---- the schema: users with a profile and posts, and posts in categories
 

@@ -25,10 +25,10 @@ use Rattle.qe_base.specs.declared.query.Child.TheOpen.{Child-F, Pick-F}
 use Rattle.qe_base.specs.declared.query.Child.TheFolds.{fold-Pick, fold-Child}
 use Rattle.qe_base.specs.declared.write.Op.{Op}
 use Rattle.qe_base.specs.declared.write.Op.TheVariants as op
-use Rattle.qe_schema.specs.Schemas.{Schema}
+use Rattle.qe_base.specs.Schemas.{Schema}
 use Rattle.qe_scalars.specs.Numbers.{is_small}
-use Rattle.qe_tables.specs.Tables.{table_at}
-use Rattle.qe_tables.specs.Fits.{is_of_kind}
+use Rattle.qe_schema.specs.Tables.{table_at, is_model, column_at}
+use Rattle.qe_schema.specs.Fits.{is_of_kind}
 use Rattle.qe_reading.specs.Related.{other_table, is_to_many, is_to_one, is_some_such}
 
 -- a part that fits the table of a number
@@ -39,9 +39,6 @@ Fitting = ℕ → Prelude.Bool
 abbrev pub is_empty : {A : Type 0} → List A → Prelude.Bool
 is_empty [] = true
 is_empty (item ∷ items) = false
-
-abbrev pub column_at : Schema → ℕ → ℕ → Option Column
-column_at schema table number = slice_get (table_at schema table).columns number
 
 abbrev pub is_column : Schema → ℕ → ℕ → Prelude.Bool
 is_column schema table number = nat_lt number (length (table_at schema table).columns)
@@ -206,10 +203,6 @@ abbrev pub child_fits : Schema → Child → FittingChild
 child_fits schema = fold-Child FittingChild Fitting (child_step schema) (pick_step schema)
 
 -- ---- operations
-
--- a table that is no link table
-abbrev pub is_model : Schema → ℕ → Prelude.Bool
-is_model schema table = is_some_such (λ found. not found.link) (slice_get schema.tables table)
 
 -- an operation that only reads, and fits the schema; what is counted is never distinct
 abbrev pub read_fits : Schema → Op → Prelude.Bool

@@ -1,3 +1,4 @@
+pub mod CarriedOut
 pub mod Examples
 pub mod Fits
 pub mod Look

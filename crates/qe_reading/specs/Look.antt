@@ -3,8 +3,8 @@ use Rattle.std.specs.Prelude.{ℕ, List, [], None}
 use Rattle.qe_base.specs.declared.value.Row.{Row}
 use Rattle.qe_base.specs.declared.query.Filter.TheVariants.{All}
 use Rattle.qe_base.specs.declared.query.Look.{Look}
-use Rattle.qe_schema.specs.Schemas.{Schema}
-use Rattle.qe_tables.specs.Tables.{Tables, table_at}
+use Rattle.qe_base.specs.Schemas.{Schema}
+use Rattle.qe_schema.specs.Tables.{Tables, table_at}
 use Rattle.qe_reading.specs.Truth.{matching}
 use Rattle.qe_reading.specs.Order.{ordered}
 use Rattle.qe_reading.specs.Page.{page_of}

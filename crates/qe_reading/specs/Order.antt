@@ -1,6 +1,6 @@
 -- The order of rows that an operation asks for.
 use Rattle.std.specs.Prelude.{ℕ, pos, List, [], ◌∷◌, Bool, true, false, length, Option, Some, None}
-use Rattle.std.specs.Ordering.{nat_cmp, on, then_cmp, ordering_reverse, is_lt, is_gt}
+use Rattle.std.specs.Ordering.{nat_cmp, on, then_cmp, ordering_reverse, is_gt}
 use Rattle.std.specs.declared.cmp.Ordering.{Ordering}
 use Rattle.qe_base.specs.Values.{value_cmp}
 use Rattle.qe_base.specs.declared.value.Row.{Row}
@@ -9,9 +9,9 @@ use Rattle.qe_base.specs.declared.value.Value.TheVariants.{Null, Int}
 use Rattle.qe_base.specs.declared.query.OrderBy.{OrderBy}
 use Rattle.qe_base.specs.declared.query.OrderEnd.{OrderEnd}
 use Rattle.qe_base.specs.declared.query.OrderEnd.TheVariants.{Column, Count}
-use Rattle.qe_schema.specs.Schemas.{Schema}
-use Rattle.qe_tables.specs.Columns.{is_null, value_at, values_cmp}
-use Rattle.qe_tables.specs.Tables.{Tables, table_at, id_of}
+use Rattle.qe_base.specs.Schemas.{Schema}
+use Rattle.qe_schema.specs.Columns.{is_null, value_at, values_cmp}
+use Rattle.qe_schema.specs.Tables.{Tables, table_at, id_of}
 use Rattle.qe_reading.specs.Related.{other_table, related, one_related}
 
 -- ---- what rows are compared by
@@ -56,9 +56,6 @@ order_cmp order = then_cmp (on (place_of order.nulls_first) nat_cmp) (directed o
 abbrev pub rows_cmp : Schema → Tables → ℕ → List OrderBy → Row → Row → Ordering
 rows_cmp schema tables table [] = on (id_of (table_at schema table)) values_cmp
 rows_cmp schema tables table (order ∷ orders) = then_cmp (on (value_by schema tables table order) (order_cmp order)) (rows_cmp schema tables table orders)
-
-abbrev pub stands_before : Schema → Tables → ℕ → List OrderBy → Row → Row → Bool
-stands_before schema tables table orders row other = is_lt (rows_cmp schema tables table orders row other)
 
 -- ---- rows in order
 

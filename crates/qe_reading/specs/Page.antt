@@ -6,7 +6,7 @@ use Rattle.qe_base.specs.declared.schema.Key.{Key}
 use Rattle.qe_base.specs.declared.schema.Table.{Table}
 use Rattle.qe_base.specs.declared.query.Page.{Page}
 use Rattle.qe_base.specs.declared.query.Unique.{Unique}
-use Rattle.qe_tables.specs.Columns.{at_columns, are_same, holds}
+use Rattle.qe_schema.specs.Columns.{at_columns, are_same, holds}
 
 -- the first row of each combination of values in the columns; null equals null
 abbrev pub one_of_each : List ℕ → List Row → List Row

@@ -9,14 +9,11 @@ use Rattle.qe_base.specs.declared.schema.Field.{Field}
 use Rattle.qe_base.specs.declared.schema.Field.TheVariants.{Scalar, Holder, Target, SideA, SideB}
 use Rattle.qe_base.specs.declared.schema.Link.{Link}
 use Rattle.qe_base.specs.declared.schema.Relation.{Relation}
-use Rattle.qe_schema.specs.Schemas.{Schema, link_of}
-use Rattle.qe_tables.specs.Columns.{Values, at_columns, holds}
-use Rattle.qe_tables.specs.Tables.{Tables, table_at, id_of}
+use Rattle.qe_base.specs.Schemas.{Schema, link_of}
+use Rattle.qe_schema.specs.Columns.{Values, at_columns, holds}
+use Rattle.qe_schema.specs.Tables.{Tables, table_at, field_at, id_of}
 
--- the field of a number in a table
-abbrev pub field_at : Schema → ℕ → ℕ → Option Field
-field_at schema table number = option_map (λ field. field.1) (slice_get (table_at schema table).fields number)
-
+-- the relation of a number
 abbrev pub relation_at : Schema → ℕ → Option Relation
 relation_at schema number = slice_get schema.relations number
 

@@ -13,10 +13,10 @@ use Rattle.qe_base.specs.declared.answer.Answer.{Answer}
 use Rattle.qe_base.specs.declared.answer.Answer as answer
 use Rattle.qe_base.specs.declared.answer.Rule.{Rule}
 use Rattle.qe_base.specs.declared.answer.Rule.TheVariants as rule
-use Rattle.qe_schema.specs.Schemas.{Schema}
-use Rattle.qe_tables.specs.Columns.{value_at}
-use Rattle.qe_tables.specs.Tables.{Tables, table_at}
-use Rattle.qe_reading.specs.Related.{field_at, relation_at, other_table, related, one_related, is_to_many, is_some_such}
+use Rattle.qe_base.specs.Schemas.{Schema}
+use Rattle.qe_schema.specs.Columns.{value_at}
+use Rattle.qe_schema.specs.Tables.{Tables, table_at, field_at}
+use Rattle.qe_reading.specs.Related.{relation_at, other_table, related, one_related, is_to_many, is_some_such}
 use Rattle.qe_reading.specs.Look.{looked_up}
 
 -- ---- results
@@ -37,15 +37,15 @@ gathered (one ∷ more) = with_front one (gathered more)
 -- ---- columns and counts
 
 -- a part of an answer, by its name
-abbrev pub Named : Type 0
-Named = List ℕ × Answer
+abbrev pub NamedAnswer : Type 0
+NamedAnswer = List ℕ × Answer
 
 -- the value in a column, by the column's name
-abbrev pub scalar_of : Option Column → ℕ → Row → Named
+abbrev pub scalar_of : Option Column → ℕ → Row → NamedAnswer
 scalar_of None number row = ([], answer.Null)
 scalar_of (Some column) number row = (column.name, answer.Scalar column.kind (value_at row number))
 
-abbrev pub columns_shown : Table → List ℕ → Row → List Named
+abbrev pub columns_shown : Table → List ℕ → Row → List NamedAnswer
 columns_shown table columns row = map (λ number. scalar_of (slice_get table.columns number) number row) columns
 
 abbrev pub name_of : Option (List ℕ × Field) → List ℕ
@@ -57,11 +57,11 @@ abbrev pub field_name : Schema → ℕ → ℕ → List ℕ
 field_name schema table number = name_of (slice_get (table_at schema table).fields number)
 
 -- how many rows are related through a field, by the field's name
-abbrev pub count_of : Schema → Tables → ℕ → Row → ℕ → Named
+abbrev pub count_of : Schema → Tables → ℕ → Row → ℕ → NamedAnswer
 count_of schema tables table row field = (field_name schema table field, answer.Number (length (related schema tables table field row)))
 
 -- the counts under one name, and nothing where none are picked
-abbrev pub counts_shown : Schema → Tables → ℕ → List ℕ → Row → List Named
+abbrev pub counts_shown : Schema → Tables → ℕ → List ℕ → Row → List NamedAnswer
 counts_shown schema tables table [] row = []
 counts_shown schema tables table (field ∷ fields) row = (codes "_count", answer.Object (map (count_of schema tables table row) (field ∷ fields))) ∷ []
 
@@ -73,7 +73,7 @@ Shows = ℕ → Row → Result Answer Rule
 
 -- the same of a child, by the name of its field
 abbrev pub ShowsChild : Type 0
-ShowsChild = ℕ → Row → Result Named Rule
+ShowsChild = ℕ → Row → Result NamedAnswer Rule
 
 -- a field whose row has to be there
 abbrev pub is_required : Schema → Field → Bool

@@ -17,9 +17,9 @@ use Rattle.qe_base.specs.declared.query.Filter.{Filter}
 use Rattle.qe_base.specs.declared.query.Filter.TheOpen.{Filter-F}
 use Rattle.qe_base.specs.declared.query.Filter.TheOpen as filter
 use Rattle.qe_base.specs.declared.query.Filter.TheFolds.{fold-Filter}
-use Rattle.qe_schema.specs.Schemas.{Schema}
-use Rattle.qe_tables.specs.Columns.{is_null, value_at}
-use Rattle.qe_tables.specs.Tables.{Tables}
+use Rattle.qe_base.specs.Schemas.{Schema}
+use Rattle.qe_schema.specs.Columns.{is_null, value_at}
+use Rattle.qe_schema.specs.Tables.{Tables}
 use Rattle.qe_reading.specs.declared.Truth.{Truth}
 use Rattle.qe_reading.specs.declared.Truth.TheVariants.{Yes, No, Unknown}
 use Rattle.qe_reading.specs.Related.{other_table, related, one_related}

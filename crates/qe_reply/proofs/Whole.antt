@@ -9,15 +9,16 @@ use Rattle.qe_base.specs.declared.value.Value.{Value}
 use Rattle.qe_base.specs.declared.value.Value.TheVariants as value
 use Rattle.qe_base.specs.declared.schema.Column.{Column}
 use Rattle.qe_base.specs.declared.schema.Table.{Table}
-use Rattle.qe_schema.specs.Schemas.{Schema}
+use Rattle.qe_base.specs.Schemas.{Schema}
 use Rattle.qe_base.specs.declared.answer.Answer.{Answer, Object, the_lemmas, Answer-F, roll-Answer, map-Answer, ind-Answer, fold-roll-Answer}
 use Rattle.qe_base.specs.declared.answer.Answer.TheOpen as answer
 use Rattle.qe_base.specs.declared.answer.OpFault.{OpFault}
 use Rattle.qe_base.specs.declared.answer.OpFault.TheVariants as fault
 use Rattle.qe_base.specs.declared.answer.Rule.{Rule}
 use Rattle.qe_base.specs.declared.answer.Rule.TheVariants as rule
-use Rattle.qe_tables.specs.Tables.{table_at}
-use Rattle.qe_forms.specs.Reply.{columns_of_key, scalar_data, answer_step, answer_data, object_of, put_all, indexed_data, column_name, names_data, rule_data, fault_data}
+use Rattle.qe_schema.specs.Tables.{table_at}
+use Rattle.qe_reading.specs.Page.{columns_of}
+use Rattle.qe_forms.specs.Reply.{scalar_data, answer_step, answer_data, object_of, put_all, indexed_data, column_name, names_data, rule_data, fault_data}
 
 pub answer_object : (members : List (List ℕ × Answer)) → answer_data (Object members) ≡ object_of (map (λ one. (one.0, answer_data one.1)) members)
 answer_object members = search (rules, the_lemmas)
@@ -97,7 +98,7 @@ names_whole table [] = refl
 names_whole table (column ∷ columns) = or_false _ _ (column_whole (slice_get table.columns column)) (names_whole table columns)
 
 rule_whole : (schema : Schema) (index : Option ℕ) (broken : Rule) → has_float (rule_data schema index broken) ≡ false
-rule_whole schema index (rule.Unique table key) = indexed_whole index _ _ _ (or_false _ _ (names_whole (table_at schema table.0) (columns_of_key (slice_get (table_at schema table.0).keys key))) refl)
+rule_whole schema index (rule.Unique table key) = indexed_whole index _ _ _ (or_false _ _ (names_whole (table_at schema table.0) (columns_of (slice_get (table_at schema table.0).keys key))) refl)
 rule_whole schema index (rule.Required relation) = refl
 rule_whole schema index (rule.Unconnected table field) = refl
 rule_whole schema index (rule.Range table column why) = refl

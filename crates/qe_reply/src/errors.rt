@@ -2,8 +2,9 @@
 ghost use Rattle.std.specs.Prelude.{◌≡◌, map, slice_get, codes, IfOk};
 ghost use Rattle.serde_json.specs.Data.{string, array, object, member, no_members, put};
 ghost use Rattle.serde_json.specs.View.{view, items_of, items_view, members_view};
-ghost use Rattle.qe_tables.specs.Tables.{table_at};
-ghost use Rattle.qe_forms.specs.Reply.{single, indexed_data, column_name, columns_of_key, names_data, rule_data, connector_data, stored_column as stored_name, misfit_data, fault_data, unseen_data};
+ghost use Rattle.qe_schema.specs.Tables.{table_at};
+ghost use Rattle.qe_reading.specs.Page.{columns_of};
+ghost use Rattle.qe_forms.specs.Reply.{single, indexed_data, column_name, names_data, rule_data, connector_data, stored_column as stored_name, misfit_data, fault_data, unseen_data};
 
 use qe_base::{Column, Memory, OpFault, Rule, Table, TableId};
 use qe_schema::Schema;
@@ -92,7 +93,7 @@ fn names_json(alloc: Global, columns: &[Column], numbers: &[u16]) -> Result<Json
 }
 
 fn key_columns(table: &Table, key: u16) -> &[u16]
-    ensures { result.now ≡ columns_of_key (slice_get table.now.keys key) }
+    ensures { result.now ≡ columns_of (slice_get table.now.keys key) }
 {
     match sqlite_items::at(table.keys.as_slice(), key as usize) {
         Some(key) => key.columns.as_slice(),
@@ -101,7 +102,7 @@ fn key_columns(table: &Table, key: u16) -> &[u16]
 }
 
 fn target_json(alloc: Global, schema: &Schema, table: TableId, key: u16) -> Result<Json, Memory>
-    ensures { IfOk result (λ json. view json ≡ names_data (table_at schema.now table.0) (columns_of_key (slice_get (table_at schema.now table.0).keys key))) }
+    ensures { IfOk result (λ json. view json ≡ names_data (table_at schema.now table.0) (columns_of (slice_get (table_at schema.now table.0).keys key))) }
 {
     match schema.table(table) {
         Some(table) => names_json(alloc, table.columns.as_slice(), key_columns(table, key)),

@@ -4,10 +4,8 @@
 mod answers;
 mod errors;
 mod fixed;
-#[cfg(test)]
-mod tests;
 mod texts;
 
 pub use fixed::{memory_text, not_json_text, unbuilt_text};
-pub use qe_history::Reply;
+pub use qe_base::Reply;
 pub use texts::write_reply;

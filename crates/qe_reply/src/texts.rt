@@ -6,8 +6,7 @@ ghost use Rattle.qe_forms.specs.Reply.{single, answer_data, text_of};
 
 use crate::answers::answer_json;
 use crate::errors::{fault_json, unseen_json};
-use qe_base::{Answer, Memory, OpFault, Text};
-use qe_history::Reply;
+use qe_base::{Answer, Memory, OpFault, Reply, Text};
 use qe_schema::Schema;
 use serde_json::{Value as Json, json};
 use std::alloc::Global;

@@ -1,3 +1,4 @@
+pub mod Carried
 pub mod Few
 pub mod Fitting
 pub mod Given

@@ -6,7 +6,5 @@ mod members;
 mod operations;
 mod scalars;
 mod simple;
-#[cfg(test)]
-mod tests;
 
 pub use lines::{LineFault, read_line};

@@ -3,8 +3,8 @@ ghost use Rattle.std.specs.Prelude.{◌≡◌, ◌<◌, ◌≤◌, [], ◌∷◌
 ghost use Rattle.std.specs.List.{enumerate_from};
 ghost use Rattle.serde_json.specs.Find.{get};
 ghost use Rattle.serde_json.specs.View.{view};
-ghost use Rattle.qe_tables.specs.Tables.{table_at};
-ghost use Rattle.qe_forms.specs.Request.{is_object_of, alone as only, whole_pick as all_columns, create_of as create_by, find_of as find_by_id, op_of as op_by, request_of};
+ghost use Rattle.qe_schema.specs.Tables.{table_at};
+ghost use Rattle.qe_forms.specs.Request.{is_object_of, alone as only, whole_pick as all_columns, create_of as create_by, find_of as find_by_id, op_by as op_by_action, op_of as op_by_guard, request_of};
 
 use crate::members::{alone, counts, has, text_at};
 use crate::scalars::{value_at, values_of};
@@ -94,24 +94,20 @@ fn table_of(schema: &Schema, id: TableId) -> &Table
     ensures table { result.now ≡ table_at schema.now id.0 }
     ensures few { length result.now.columns ≤ 128 }
 {
-    schema.is_accepted();
+    schema.is_sound();
     schema.table(id).unwrap()
 }
 
-fn op_of(
+fn op_by(
     alloc: Global,
-    schema: &Schema,
     id: TableId,
+    table: &Table,
     action: &str,
     arguments: &Json,
 ) -> Result<Option<Op>, Memory>
-    requires { id.0 < length schema.now.tables }
-    ensures { IfOk result (λ found. found ≡ op_by schema.now id action.now (view arguments.now)) }
+    requires { length table.now.columns ≤ 128 }
+    ensures { IfOk result (λ found. found ≡ op_by_action id table.now action.now (view arguments.now)) }
 {
-    let table = table_of(schema, id);
-    if !is_simple(table) {
-        return Ok(None);
-    }
     if action == "create" {
         match alone(arguments, "data") {
             Some(json) => create_of(alloc, id, table, json),
@@ -125,6 +121,23 @@ fn op_of(
     } else {
         Ok(None)
     }
+}
+
+fn op_of(
+    alloc: Global,
+    schema: &Schema,
+    id: TableId,
+    action: &str,
+    arguments: &Json,
+) -> Result<Option<Op>, Memory>
+    requires { id.0 < length schema.now.tables }
+    ensures { IfOk result (λ found. found ≡ op_by_guard schema.now id action.now (view arguments.now)) }
+{
+    let table = table_of(schema, id);
+    if !is_simple(table) {
+        return Ok(None);
+    }
+    op_by(alloc, id, table, action, arguments)
 }
 
 fn arguments_of(json: &Json) -> Option<&Json>
@@ -143,7 +156,7 @@ fn is_request(json: &Json) -> bool
     counts(json, 3) && has(json, "action") && has(json, "modelName") && has(json, "query")
 }
 
-/// The operation that a value is a request of.
+/// The operation that a value is a request of, which is carried out so far.
 pub fn request(alloc: Global, schema: &Schema, json: &Json) -> Result<Option<Op>, Memory>
     ensures { IfOk result (λ found. found ≡ request_of schema.now (view json.now)) }
 {

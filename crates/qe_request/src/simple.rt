@@ -1,8 +1,8 @@
 //! Which models requests are carried out on so far.
 ghost use Rattle.std.specs.Prelude.{◌≡◌};
 ghost use Rattle.std.specs.List.{list_all};
-ghost use Rattle.qe_tables.specs.Tables.{id_columns as columns_of_id};
-ghost use Rattle.qe_plain.specs.Simple as simple;
+ghost use Rattle.qe_schema.specs.Tables.{id_columns as columns_of_id};
+ghost use Rattle.qe_reading.specs.CarriedOut as simple;
 
 use qe_base::{Column, Fill, Kind, Table};
 

@@ -4,8 +4,6 @@
 mod base64_text;
 mod moment_text;
 mod number_text;
-#[cfg(test)]
-mod tests;
 
 ghost use Rattle.std.specs.Prelude.{◌≡◌, pos, negsuc, codes, Some, None, [], ◌∷◌};
 ghost use Rattle.qe_scalars.specs.Moments.{moment_of};

@@ -1,8 +1,4 @@
-pub mod Columns
-pub mod Follows
-pub mod Identity
-pub mod Keys
-pub mod Limits
+pub mod Equal
+pub mod Known
 pub mod Members
-pub mod Unbroken
-pub mod Whole
+pub mod Tests

@@ -1,3 +1,13 @@
-pub mod Kept
-pub mod SchemaOf
-pub mod Schemas
+pub mod Columns
+pub mod Cycles
+pub mod Fields
+pub mod Fits
+pub mod Keys
+pub mod Limits
+pub mod Links
+pub mod Names
+pub mod Pairs
+pub mod Put
+pub mod References
+pub mod Sound
+pub mod Tables

@@ -1,8 +1,8 @@
-//! The value of an accepted schema text.
+//! Schemas that are sound.
 ghost use Rattle.std.specs.Prelude.{◌≡◌, ◌<◌, length, IfOk, IfSome, slice_get, position, bytes_eq};
 ghost use Rattle.std.specs.Option.{option_copied};
-ghost use Rattle.qe_schema.specs.Schemas.{table_named, link_of};
-ghost use Rattle.qe_schema.specs.SchemaOf.{IsSchema};
+ghost use Rattle.qe_base.specs.Schemas.{table_named, link_of};
+ghost use Rattle.qe_schema.specs.Sound.{IsSound};
 
 use crate::copies::{copy_choices, copy_links, copy_relations, copy_tables};
 use qe_base::{Choice, EnumId, Link, RelId, Relation, Table, TableId};
@@ -10,7 +10,7 @@ use qe_text::{Items, Memory};
 use std::alloc::Global;
 use std::marker::Model;
 
-/// An accepted schema, which contracts see as its tables, relations, links and enums.
+/// A sound schema, which contracts see as its tables, relations, links and enums.
 #[derive(Drop)]
 pub struct Schema {
     tables: Items<Table>,
@@ -20,14 +20,14 @@ pub struct Schema {
 }
 
 impl Model for Schema {
-    ghost use Rattle.qe_schema.specs.Schemas.{Schema};
-    ghost use Rattle.qe_schema.specs.SchemaOf.{IsSchema};
+    ghost use Rattle.qe_base.specs.Schemas.{Schema};
+    ghost use Rattle.qe_schema.specs.Sound.{IsSound};
 
     ghost Value = { Schema };
 
     ghost view = { λ s. record { tables = s.tables; relations = s.relations; links = s.links; choices = s.choices } };
 
-    ghost invariant = { λ s. IsSchema (record { tables = s.tables; relations = s.relations; links = s.links; choices = s.choices }) };
+    ghost invariant = { λ s. IsSound (record { tables = s.tables; relations = s.relations; links = s.links; choices = s.choices }) };
 }
 
 fn position_of(tables: &[Table], name: &str) -> Option<usize>
@@ -45,7 +45,7 @@ impl Schema {
         links: Items<Link>,
         choices: Items<Choice>,
     ) -> Schema
-        requires { IsSchema (record { tables = tables; relations = relations; links = links; choices = choices }) }
+        requires { IsSound (record { tables = tables; relations = relations; links = links; choices = choices }) }
         ensures { result ≡ record { tables = tables; relations = relations; links = links; choices = choices } }
     {
         Schema {
@@ -56,9 +56,9 @@ impl Schema {
         }
     }
 
-    /// A schema is the value of an accepted tree.
-    pub fn is_accepted(&self)
-        ensures { IsSchema self.now }
+    /// A schema has all that the engine needs of one.
+    pub fn is_sound(&self)
+        ensures { IsSound self.now }
     {
         let _tables = &self.tables;
     }

@@ -1,2 +1,2 @@
-mod Accepted
+mod Few
 mod Pieces

@@ -1,13 +1,13 @@
 -- What a connector keeps before it is attached, and what it is attached with.
 use Rattle.std.specs.Prelude.{◌≡◌, ℕ, List, Option, Some, None, option_map, Result, OnOk, OnErr, IfErr, IfSome, IsSomeAnd, [], true}
-use Rattle.qe_schema.specs.Schemas.{Schema}
+use Rattle.qe_base.specs.Schemas.{Schema}
 use Rattle.qe_base.specs.declared.value.Row.{Row}
-use Rattle.qe_tables.specs.Fits.{FitsSchema}
-use Rattle.qe_tables.specs.Tables.{Tables, no_rows}
-use Rattle.qe_changes.specs.declared.Change.{Change}
-use Rattle.qe_changes.specs.declared.AttachFault.{AttachFault}
-use Rattle.qe_changes.specs.declared.AttachFault.TheVariants as fault
-use Rattle.qe_changes.specs.Right.{has_table, can_load, are_right, Leads}
+use Rattle.qe_schema.specs.Fits.{FitsSchema}
+use Rattle.qe_schema.specs.Tables.{Tables, no_rows}
+use Rattle.qe_view.specs.declared.changes.Change.{Change}
+use Rattle.qe_view.specs.declared.changes.AttachFault.{AttachFault}
+use Rattle.qe_view.specs.declared.changes.AttachFault.TheVariants as fault
+use Rattle.qe_view.specs.Right.{has_table, can_load, are_right, ChangesLead}
 use Rattle.qe_view.specs.Layouts.{Layout}
 use Rattle.qe_view.specs.LayoutText.{layout_text}
 
@@ -62,7 +62,7 @@ CanLoad attached table columns keys = IsSomeAnd attached (λ layout. can_load (s
 
 -- changes of the layout, which lead from the told tables to others that fit it
 abbrev pub CanApply : Option Layout → Option Tables → List Change → Type 0
-CanApply attached told changes = IsSomeAnd attached (λ layout. (are_right (shapes_of layout) changes ≡ true) × IfSome told (Leads (shapes_of layout) changes))
+CanApply attached told changes = IsSomeAnd attached (λ layout. (are_right (shapes_of layout) changes ≡ true) × IfSome told (ChangesLead (shapes_of layout) changes))
 
 -- what holds of the shapes of the attached layout
 abbrev pub OfShapes : Option Layout → (Schema → Type 0) → Type 0

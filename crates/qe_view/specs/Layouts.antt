@@ -3,8 +3,8 @@ use Rattle.std.specs.Prelude.{◌≡◌, ℕ, List, map, filter, ◌==◌}
 use Rattle.qe_base.specs.declared.schema.Choice.{Choice}
 use Rattle.qe_base.specs.declared.schema.Relation.{Relation}
 use Rattle.qe_base.specs.declared.schema.Table.{Table}
-use Rattle.qe_schema.specs.Schemas.{Schema}
-use Rattle.qe_schema.specs.SchemaOf.{IsSchema}
+use Rattle.qe_base.specs.Schemas.{Schema}
+use Rattle.qe_schema.specs.Sound.{IsSound}
 use Rattle.qe_view.specs.declared.layout.ForeignKey.{ForeignKey}
 
 -- The models and then the link tables, the enums, and the foreign keys in the order of their relations.
@@ -24,6 +24,6 @@ layout_of schema = record { tables = schema.tables; choices = schema.choices; fo
 abbrev pub foreign_columns : ℕ → List ForeignKey → List (List ℕ)
 foreign_columns table keys = map (λ key. key.columns) (filter (λ key. key.child.0 == table) keys)
 
--- the layout of an accepted schema
+-- the layout of a sound schema
 abbrev pub IsLayout : Layout → Type 0
-IsLayout layout = (schema : Schema) × IsSchema schema × (layout ≡ layout_of schema)
+IsLayout layout = (schema : Schema) × IsSound schema × (layout ≡ layout_of schema)

@@ -1,8 +1,8 @@
 -- What the calls of a view do to its tables, and to what they were before each change that can be taken back.
 use Rattle.std.specs.Prelude.{◌≡◌, ℕ, ◌≤◌, List, [], ◌∷◌, ◌++◌, length, take, slice_get, Option, Some, option_map, Result, OnOk, OnErr, IfSome}
-use Rattle.qe_schema.specs.Schemas.{Schema}
-use Rattle.qe_tables.specs.Fits.{FitsSchema}
-use Rattle.qe_tables.specs.Tables.{Tables}
+use Rattle.qe_base.specs.Schemas.{Schema}
+use Rattle.qe_schema.specs.Fits.{FitsSchema}
+use Rattle.qe_schema.specs.Tables.{Tables}
 
 -- What a view tells of its tables: now, and before each change that can be taken back, the oldest first; and
 -- those that are kept below, which stay while its changes are in the view alone.

@@ -1,16 +1,15 @@
 //! What keeps the tables of a schema: in memory, in a file.
 ghost use Rattle.std.specs.Prelude.{◌≡◌, ℕ, Bool, Option, Some, None, false, is_some, not, option_map, OnOk, OnErr, IfErr, IsErrOf, IfSome};
 ghost use Rattle.qe_base.specs.Causes.{HasCause};
-ghost use Rattle.qe_changes.specs.After.{after_all, rows_in, rows_at};
-ghost use Rattle.qe_changes.specs.Answers.{GivesRows, RowsFit, GivesLast, NamesColumn, IsMisfit, HasCauses};
-ghost use Rattle.qe_changes.specs.Calls.{Calls, with_load, with_scan, with_last, with_apply};
-ghost use Rattle.qe_tables.specs.Tables.{Tables};
+ghost use Rattle.qe_view.specs.After.{after_all, rows_in, rows_at};
+ghost use Rattle.qe_view.specs.Answers.{GivesRows, RowsFit, GivesLast, NamesColumn, IsMisfit, HasCauses};
+ghost use Rattle.qe_view.specs.Calls.{CallCounts, with_load, with_scan, with_last, with_apply};
+ghost use Rattle.qe_schema.specs.Tables.{Tables};
 ghost use Rattle.qe_view.specs.Attached.{Kept, Attaches, FitLayout, HasTable, CanLoad, CanApply, OfShapes, shapes_of};
 ghost use Rattle.qe_view.specs.Layouts.{Layout as LayoutSeen};
 
-use crate::Layout;
+use crate::{AttachFault, Change, ConnFault, Layout};
 use qe_base::{Row, Rows, TableId};
-use qe_changes::{AttachFault, Change, ConnFault};
 
 /// What keeps tables. It is attached once, with a layout, and then answers about its tables and changes them.
 /// One that tells says in contracts which tables it keeps; the engine knows nothing else of it. It counts its
@@ -35,7 +34,7 @@ pub trait Connector: Drop {
     ghost may_fail: { Self → Bool };
 
     /// The calls that were made of it.
-    ghost calls: { Self → Calls };
+    ghost calls: { Self → CallCounts };
 
     /// Opens what is kept at a place, for tables of a layout. It comes once, before all else.
     /// Refused with `Layout` where the text of another layout is kept there.

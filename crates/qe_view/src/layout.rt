@@ -18,7 +18,7 @@ pub struct ForeignKey {
     pub columns: Items<u16>,
 }
 
-/// The layout of an accepted schema, which contracts see as its tables, enums and foreign keys.
+/// The layout of a sound schema, which contracts see as its tables, enums and foreign keys.
 #[derive(Drop)]
 pub struct Layout {
     tables: Items<Table>,
@@ -67,7 +67,7 @@ impl Layout {
     pub fn of(alloc: Global, schema: &Schema) -> Result<Layout, Memory>
         ensures { IfOk result (λ layout. layout ≡ layout_of schema.now) }
     {
-        schema.is_accepted();
+        schema.is_sound();
         let tables = copy_tables(alloc, schema.table_list())?;
         let choices = copy_choices(alloc, schema.choice_list())?;
         let foreign_keys = foreign_keys(alloc, schema.relation_list())?;
@@ -78,8 +78,8 @@ impl Layout {
         })
     }
 
-    /// A layout is one of an accepted schema.
-    pub fn is_accepted(&self)
+    /// A layout is that of a sound schema.
+    pub fn is_of_schema(&self)
         ensures { IsLayout self.now }
     {
         let _tables = &self.tables;

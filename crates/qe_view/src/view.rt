@@ -1,17 +1,17 @@
 //! The tables that an operation works on.
 ghost use Rattle.std.specs.Prelude.{◌≡◌, ◌≤◌, ℕ, Bool, Option, true, false, is_some, not, length, IfErr, IfSome};
-ghost use Rattle.qe_changes.specs.After.{after, rows_in, rows_at};
-ghost use Rattle.qe_changes.specs.Answers.{GivesRows, RowsFit, GivesLast, NamesColumn, HasCauses};
-ghost use Rattle.qe_changes.specs.Calls.{Calls, AtMost, with_load, with_scan, with_last};
-ghost use Rattle.qe_changes.specs.Right.{has_table, can_load, is_right};
-ghost use Rattle.qe_changes.specs.declared.Change.TheVariants as change;
-ghost use Rattle.qe_schema.specs.Schemas.{Schema};
-ghost use Rattle.qe_tables.specs.Fits.{FitsSchema};
-ghost use Rattle.qe_tables.specs.Tables.{Tables};
+ghost use Rattle.qe_view.specs.After.{after, rows_in, rows_at};
+ghost use Rattle.qe_view.specs.Answers.{GivesRows, RowsFit, GivesLast, NamesColumn, HasCauses};
+ghost use Rattle.qe_view.specs.Calls.{CallCounts, AtMost, with_load, with_scan, with_last};
+ghost use Rattle.qe_view.specs.Right.{has_table, can_load, is_right};
+ghost use Rattle.qe_view.specs.declared.changes.Change.TheVariants as change;
+ghost use Rattle.qe_base.specs.Schemas.{Schema};
+ghost use Rattle.qe_schema.specs.Fits.{FitsSchema};
+ghost use Rattle.qe_schema.specs.Tables.{Tables};
 ghost use Rattle.qe_view.specs.Versions.{Versions, Changes, GoesBack, LeadsToFit};
 
+use crate::ConnFault;
 use qe_base::{Row, Rows, TableId, Value};
-use qe_changes::ConnFault;
 use qe_text::Memory;
 
 /// How many changes of a view were made that can be taken back.
@@ -40,7 +40,7 @@ pub trait View: Drop {
     ghost may_fail: { Self → Bool };
 
     /// The calls that were made below.
-    ghost calls: { Self → Calls };
+    ghost calls: { Self → CallCounts };
 
     /// The told tables of one that is in order fit its schema.
     ghost fits: { (v : Self) → stands v → IfSome (versions v).now (FitsSchema (schema v)) };

@@ -1,31 +1,32 @@
 -- Rows that fit: their values, and values put into their columns.
-use Rattle.std.proofs.Common.{◌≡◌, ℕ, zero, suc, Bool, true, false, not, List, [], ◌∷◌, map, length, zip, Option, Some, None, option_map, unwrap_or, slice_get, slice_set, refl, sym, ap, subst, ◌∙◌, true≢false}
-use Rattle.std.specs.Prelude.{option_and_then, is_some, if◌then◌else◌}
+use Rattle.std.proofs.Common.{◌≡◌, inl, ℕ, zero, suc, Bool, true, false, not, List, [], ◌∷◌, map, length, zip, Option, Some, None, IfSome, option_map, unwrap_or, slice_get, slice_set, refl, sym, ap, subst, ◌∙◌, true≢false}
+use Rattle.std.specs.Prelude.{is_some, if◌then◌else◌}
 use Rattle.std.specs.List.{list_all}
 use Rattle.std.proofs.lemmas.Bool.{and_parts, and_from}
 use Rattle.std.proofs.lemmas.List.{length-map}
-use Rattle.psl_rules.specs.Updates.{In}
+use Rattle.qe_text.specs.Lists.{In}
 use Rattle.qe_base.specs.declared.value.Row.{Row}
 use Rattle.qe_base.specs.declared.value.Value.{Value}
 use Rattle.qe_base.specs.declared.value.Value.TheVariants.{Null}
 use Rattle.qe_base.specs.declared.schema.Choice.{Choice}
 use Rattle.qe_base.specs.declared.schema.Column.{Column}
 use Rattle.qe_base.specs.declared.schema.Relation.{Relation}
-use Rattle.qe_base.specs.declared.schema.Table.{Table}
-use Rattle.qe_schema.specs.Schemas.{Schema}
-use Rattle.qe_tables.specs.Columns.{Values, is_null, value_at, at_columns}
-use Rattle.qe_tables.specs.Fits.{fits_column, fit_columns, is_of_kind}
-use Rattle.qe_tables.specs.Tables.{table_at, no_table}
+use Rattle.qe_base.specs.Schemas.{Schema}
+use Rattle.qe_schema.specs.Columns.{Values, is_null, value_at, at_columns}
+use Rattle.qe_schema.specs.Fits.{fits_column, fit_columns, is_of_kind}
+use Rattle.qe_base.specs.declared.value.RelId.{RelId}
+use Rattle.qe_base.specs.declared.schema.Field.TheVariants.{Holder, Target}
+use Rattle.qe_schema.specs.Tables.{table_at, column_at, field_at}
 use Rattle.qe_reading.specs.Related.{is_some_such}
-use Rattle.qe_reading.specs.Fits as reading
-use Rattle.qe_accepted.specs.References.{column_at, kinds_at, optional_at}
+use Rattle.qe_schema.specs.References.{kinds_at, optional_at}
 use Rattle.qe_writing.specs.Given.{with_values, with_columns}
 use Rattle.qe_writing.specs.Delete.{nulls}
+use Rattle.qe_writing.specs.Change.{first_or}
 use Rattle.qe_writing.specs.Ways.{relation_at, no_relation}
 use Rattle.qe_writing.specs.WriteFits.{value_fits}
 use Rattle.qe_write_laws.specs.Keeps.{row_fits}
-use Rattle.qe_write_laws.specs.Sound.{IsSound}
-use Rattle.qe_write_laws.proofs.Lists.{some_same, in_get}
+use Rattle.qe_schema.specs.Sound.{IsSound}
+use Rattle.qe_schema.proofs.Members.{some_same, not_some, in_place, head_or, rest_of}
 
 -- ---- one value
 
@@ -61,24 +62,6 @@ with_columns_fit schema table numbers given row = with_values_fit schema table n
 
 -- ---- references
 
-same_column : (schema : Schema) (table number : ℕ) → column_at schema table number ≡ reading.column_at schema table number
-same_column schema table number = by_table (slice_get schema.tables table)
-  where
-    by_table : (o : Option Table) → option_and_then (λ (found : Table). slice_get found.columns number) o ≡ slice_get (unwrap_or o no_table).columns number
-    by_table None = refl
-    by_table (Some found) = refl
-
-first_same : {A : Type 0} (x y : A) (xs ys : List A) → x ∷ xs ≡ y ∷ ys → x ≡ y
-first_same x y xs ys same = some_same x y (ap (λ all. slice_get all 0) same)
-
-rest_of : {A : Type 0} → List A → List A
-rest_of [] = []
-rest_of (x ∷ xs) = xs
-
-rest_same : {A : Type 0} (x y : A) (xs ys : List A) → x ∷ xs ≡ y ∷ ys → xs ≡ ys
-unfolding rest_of
-rest_same x y xs ys same = ap rest_of same
-
 -- what stands in a required column is a value of its kind, and fits each column of that kind
 handed_to : (choices : List Choice) (value : Value) (own other : Column) → own.kind ≡ other.kind → other.optional ≡ false → fits_column choices other value ≡ true → fits_column choices own value ≡ true
 handed_to choices value own other same required fits = by_null (is_null value) refl
@@ -107,24 +90,38 @@ handed schema child parent [] others row fit kinds required = refl
 handed schema child parent (number ∷ own) [] row fit kinds required = refl
 handed schema child parent (number ∷ own) (other ∷ others) row fit kinds required =
     and_from (value_fits schema child (number, value_at row other)) (list_all (value_fits schema child) (zip own (at_columns others row)))
-    (ap (λ o. is_some_such (λ column. fits_column schema.choices column (value_at row other)) o) (sym (same_column schema child number))
-    ∙ handed_one schema.choices (value_at row other) (column_at schema child number) (column_at schema parent other) (first_same _ _ _ _ kinds) first_required
-    (there_fits schema.choices (table_at schema parent).columns row.values other (column_at schema parent other) fit (sym (same_column schema parent other)) first_required))
-    (handed schema child parent own others row fit (rest_same _ _ _ _ kinds) (rest_same _ _ _ _ required))
+    (handed_one schema.choices (value_at row other) (column_at schema child number) (column_at schema parent other) (ap (head_or None) kinds) first_required
+    (there_fits schema.choices (table_at schema parent).columns row.values other (column_at schema parent other) fit refl first_required))
+    (handed schema child parent own others row fit (ap rest_of kinds) (ap rest_of required))
   where
     first_required : option_map (λ (found : Column). found.optional) (column_at schema parent other) ≡ Some false
-    first_required = first_same _ _ _ _ required
+    first_required = ap (head_or None) required
 
 null_fits : (choices : List Choice) (optional : Bool) (o : Option Column) → optional ≡ true → option_map (λ (found : Column). found.optional) o ≡ Some optional → is_some_such (λ column. fits_column choices column Null) o ≡ true
 null_fits choices optional None is at = absurd (true≢false (sym (ap is_some at)))
 null_fits choices optional (Some column) is at = some_same column.optional optional at ∙ is
 
-nulls_fit : (schema : Schema) (child : ℕ) (own : List ℕ) (optional : Bool) → optional ≡ true → optional_at schema child own ≡ map (λ column. Some optional) own → list_all (value_fits schema child) (zip own (nulls own)) ≡ true
+pub nulls_fit : (schema : Schema) (child : ℕ) (own : List ℕ) (optional : Bool) → optional ≡ true → optional_at schema child own ≡ map (λ column. Some optional) own → list_all (value_fits schema child) (zip own (nulls own)) ≡ true
 nulls_fit schema child [] optional is at = refl
 nulls_fit schema child (number ∷ own) optional is at =
     and_from (value_fits schema child (number, Null)) (list_all (value_fits schema child) (zip own (nulls own)))
-    (ap (λ o. is_some_such (λ column. fits_column schema.choices column Null) o) (sym (same_column schema child number)) ∙ null_fits schema.choices optional (column_at schema child number) is (first_same _ _ _ _ at))
-    (nulls_fit schema child own optional is (rest_same _ _ _ _ at))
+    (null_fits schema.choices optional (column_at schema child number) is (ap (head_or None) at))
+    (nulls_fit schema child own optional is (ap rest_of at))
+
+-- the first of some columns that are required where they are there, of which there is one of this column's kind
+pub first_fits : (schema : Schema) (table : ℕ) (row : Row) (column : Column) (own : Option Column) → own ≡ Some column → row_fits schema table row ≡ true → (otherwise : Value) (numbers : List ℕ)
+    → ((number : ℕ) → In number numbers → IfSome (column_at schema table number) (λ (found : Column). found.optional ≡ false)) → option_map (λ (found : Column). found.kind) own ∷ [] ≡ kinds_at schema table numbers
+    → fits_column schema.choices column (first_or otherwise (at_columns numbers row)) ≡ true
+unfolding In
+first_fits schema table row column own at right otherwise [] required kinds = absurd cc
+first_fits schema table row column own at right otherwise (number ∷ numbers) required kinds = by_column (column_at schema table number) refl (required number (inl refl)) (ap (head_or None) kinds)
+  where
+    by_column : (o : Option Column) → column_at schema table number ≡ o → IfSome o (λ (found : Column). found.optional ≡ false) → option_map (λ (found : Column). found.kind) own ≡ option_map (λ (found : Column). found.kind) o
+        → fits_column schema.choices column (value_at row number) ≡ true
+    by_column None is needed same = absurd (not_some column.kind (sym same ∙ ap (option_map (λ (found : Column). found.kind)) at))
+    by_column (Some other) is needed same =
+        handed_to schema.choices (value_at row number) column other (some_same column.kind other.kind (sym (ap (option_map (λ (found : Column). found.kind)) at) ∙ same)) needed
+        (value_in schema.choices (table_at schema table).columns row.values number other right is)
 
 -- ---- relations by their numbers
 
@@ -134,7 +131,7 @@ of_relation schema P none each number = by_found (slice_get schema.relations num
   where
     by_found : (o : Option Relation) → slice_get schema.relations number ≡ o → P (unwrap_or o no_relation)
     by_found None at = none
-    by_found (Some relation) at = each relation (in_get schema.relations number relation at)
+    by_found (Some relation) at = each relation (in_place schema.relations number relation at)
 
 abbrev HandsOn : Schema → Relation → Type 0
 HandsOn schema relation = (row : Row) → row_fits schema relation.parent.0 row ≡ true → list_all (value_fits schema relation.child.0) (zip relation.child_columns (at_columns relation.parent_columns row)) ≡ true
@@ -142,21 +139,20 @@ HandsOn schema relation = (row : Row) → row_fits schema relation.parent.0 row 
 -- the values of a parent that fits are values of the columns that refer to them
 pub hands_on : (schema : Schema) → IsSound schema → (number : ℕ) → HandsOn schema (relation_at schema number)
 hands_on schema sound = of_relation schema (HandsOn schema) (λ row fit. refl) (λ relation is_in row fit.
-    let refers = sound.relations relation is_in in
-    handed schema relation.child.0 relation.parent.0 relation.child_columns relation.parent_columns row fit refers.agrees.kinds refers.required)
+    handed schema relation.child.0 relation.parent.0 relation.child_columns relation.parent_columns row fit (sound.agree relation is_in).kinds (sound.required relation is_in))
 
 abbrev CountsRight : Relation → Type 0
 CountsRight relation = (row : Row) → length relation.child_columns ≡ length (at_columns relation.parent_columns row)
 
 pub counts_right : (schema : Schema) → IsSound schema → (number : ℕ) → CountsRight (relation_at schema number)
-counts_right schema sound = of_relation schema CountsRight (λ row. refl) (λ relation is_in row. (sound.relations relation is_in).same ∙ sym (length-map relation.parent_columns (value_at row)))
+counts_right schema sound = of_relation schema CountsRight (λ row. refl) (λ relation is_in row. (sound.refer relation is_in).same ∙ sym (length-map relation.parent_columns (value_at row)))
 
 abbrev LetsGo : Schema → Relation → Type 0
 LetsGo schema relation = relation.optional ≡ true → list_all (value_fits schema relation.child.0) (zip relation.child_columns (nulls relation.child_columns)) ≡ true
 
 -- null stands in the columns of an optional reference
 pub lets_go : (schema : Schema) → IsSound schema → (number : ℕ) → LetsGo schema (relation_at schema number)
-lets_go schema sound = of_relation schema (LetsGo schema) (λ optional. refl) (λ relation is_in optional. nulls_fit schema relation.child.0 relation.child_columns relation.optional optional (sound.relations relation is_in).agrees.optional)
+lets_go schema sound = of_relation schema (LetsGo schema) (λ optional. refl) (λ relation is_in optional. nulls_fit schema relation.child.0 relation.child_columns relation.optional optional (sound.agree relation is_in).optional)
 
 -- a reference that isn't needed can be let go
 pub lets_go_unneeded : (schema : Schema) → IsSound schema → (number : ℕ) → is_some_such (λ relation. not relation.optional) (slice_get schema.relations number) ≡ false
@@ -170,4 +166,14 @@ lets_go_unneeded schema sound number unneeded = by_found (slice_get schema.relat
     by_found : (o : Option Relation) → slice_get schema.relations number ≡ o → is_some_such (λ relation. not relation.optional) o ≡ false
         → list_all (value_fits schema (unwrap_or o no_relation).child.0) (zip (unwrap_or o no_relation).child_columns (nulls (unwrap_or o no_relation).child_columns)) ≡ true
     by_found None at is = refl
-    by_found (Some relation) at is = nulls_fit schema relation.child.0 relation.child_columns relation.optional (not_false relation.optional is) (sound.relations relation (in_get schema.relations number relation at)).agrees.optional
+    by_found (Some relation) at is = nulls_fit schema relation.child.0 relation.child_columns relation.optional (not_false relation.optional is) (sound.agree relation (in_place schema.relations number relation at)).optional
+
+-- ---- the fields of relations
+
+-- the field that holds a relation is one of its child
+pub is_of_child : (schema : Schema) → IsSound schema → (table field : ℕ) (relation : RelId) → field_at schema table field ≡ Some (Holder relation) → (relation_at schema relation.0).child.0 ≡ table
+is_of_child schema sound table field relation at = let leads = sound.fields table field (Holder relation) at in ap (λ o. (unwrap_or o no_relation).child.0) leads.1 ∙ leads.2
+
+-- the one on its other side is one of its parent
+pub is_of_parent : (schema : Schema) → IsSound schema → (table field : ℕ) (relation : RelId) → field_at schema table field ≡ Some (Target relation) → (relation_at schema relation.0).parent.0 ≡ table
+is_of_parent schema sound table field relation at = let leads = sound.fields table field (Target relation) at in ap (λ o. (unwrap_or o no_relation).parent.0) leads.1 ∙ leads.2

@@ -6,31 +6,26 @@ use Rattle.qe_base.specs.declared.value.RelId.{RelId}
 use Rattle.qe_base.specs.declared.schema.Field.TheVariants.{Holder}
 use Rattle.qe_base.specs.declared.schema.Relation.{Relation}
 use Rattle.qe_base.specs.declared.answer.Rule.{Rule}
-use Rattle.qe_schema.specs.Schemas.{Schema}
-use Rattle.qe_tables.specs.Tables.{Tables}
-use Rattle.qe_reading.specs.Related.{field_at, led_to_by, is_some_such}
-use Rattle.qe_writing.specs.State.{◌>>=◌}
+use Rattle.qe_base.specs.Schemas.{Schema}
+use Rattle.qe_schema.specs.Tables.{Tables, field_at}
+use Rattle.qe_reading.specs.Related.{led_to_by, is_some_such}
+use Rattle.qe_writing.specs.WriteState.{◌>>=◌}
 use Rattle.qe_writing.specs.Ways.{Way, no_relation}
-use Rattle.qe_writing.specs.Write.{Made, Side, Holding, Reaching, Run, Runs, FieldRuns, parent_table, kinds, chosen, run_kind, run_kinds, run_field, nested_step}
+use Rattle.qe_writing.specs.Write.{Made, Spot, Holding, Reaching, Run, Makes, FieldRuns, parent_table, kinds, chosen, run_kind, run_kinds, run_field, nested_step}
 use Rattle.qe_writing.specs.WriteFits as fitting
 use Rattle.qe_writing.specs.WriteFits.{FittingStep, FittingSteps}
-use Rattle.qe_write_laws.proofs.Lists.{or_parts, or_left, by_either, any_weaker}
-use Rattle.qe_write_laws.proofs.Rows.{bind_ok}
+use Rattle.qe_schema.proofs.Tests.{or_parts, or_left, by_either, any_weaker}
+use Rattle.qe_write_laws.proofs.Results.{bind_ok, ok_weaker}
 use Rattle.qe_write_laws.proofs.Ways.{WayKeeps}
 use Rattle.qe_write_laws.proofs.Steps.{has, Ready, Grows, Attaches, HeldSteps, FieldKeeps, KeptStep}
-use Rattle.qe_write_laws.proofs.Holders.{ok_weaker}
 
-pub ok_both : {A : Type 0} (r : Result A Rule) (P Q : A → Type 0) → IfOk r P → IfOk r Q → IfOk r (λ a. P a × Q a)
-ok_both (Ok a) P Q p q = (p, q)
-ok_both (Err broken) P Q p q = tt
-
-chosen_ok : (b : Bool) (run : Runs) (made : Made) (Q : Made → Type 0) → (b ≡ true → IfOk (run made) Q) → (b ≡ false → Q made) → IfOk (chosen b run made) Q
+chosen_ok : (b : Bool) (run : Makes) (made : Made) (Q : Made → Type 0) → (b ≡ true → IfOk (run made) Q) → (b ≡ false → Q made) → IfOk (chosen b run made) Q
 chosen_ok true run made Q chose left = chose refl
 chosen_ok false run made Q chose left = left refl
 
 -- ---- what each run keeps, all of them keep
 
-module _ (side : Side) (P : Made → Type 0) where
+module _ (side : Spot) (P : Made → Type 0) where
   abbrev pub RunKeeps : Run → Type 0
   RunKeeps one = (made : Made) → P made → IfOk (one.run side made) P
 
@@ -54,7 +49,7 @@ module _ (side : Side) (P : Made → Type 0) where
 
 -- ---- runs of which each attaches a row
 
-module _ (schema : Schema) (Fact : Tables → Type 0) (side : Side) (table number : ℕ) where
+module _ (schema : Schema) (Fact : Tables → Type 0) (side : Spot) (table number : ℕ) where
   pub record Attached (made : Made) : Type 0 where
     pub ready : Ready schema Fact table made
     pub attached : has number made.attached ≡ true
@@ -152,7 +147,7 @@ module _ (schema : Schema) (Fact : Tables → Type 0) where
         run_kinds_keeps (Reaching way table field row) (λ made. Fact made.state.tables) kinds (map (λ (k : KeptStep schema Fact). k.run) steps)
         (all_reach way table field row new kept steps (subst (λ o. is_some_such (λ other. list_all (λ (one : FittingStep). one.fits new table field other) (map (λ (k : KeptStep schema Fact). k.fit) steps)) o ≡ true) kept.leads (fit_on own steps new table field same fits))) made holds;
     holding_new = λ table field relation same at fits made ready.
-        let side : Side = Holding table field relation.0 None in
+        let side : Spot = Holding table field relation.0 None in
         let runs : List Run = map (λ (k : KeptStep schema Fact). k.run) steps in
         let all = all_attach table field relation at steps (parent_of table field relation at (λ other. list_all (λ (one : FittingStep). one.fits true table field other) (map (λ (k : KeptStep schema Fact). k.fit) steps)) (fit_on own steps true table field same fits)) in
         held side table relation.0 (list_any (λ (one : FittingStep). one.gives) (map (λ (k : KeptStep schema Fact). k.fit) steps)) made (run_kinds side kinds runs made)
@@ -163,6 +158,6 @@ module _ (schema : Schema) (Fact : Tables → Type 0) where
         (all_held table field row relation at steps (parent_of table field relation at (λ other. list_all (λ (one : FittingStep). one.fits false table field other) (map (λ (k : KeptStep schema Fact). k.fit) steps)) (fit_on own steps false table field same fits)));
   }
     where
-      held : (side : Side) (table number : ℕ) (gives : Bool) (made : Made) (result : Result Made Rule) → IfOk result (ReadyAfter schema Fact side table number made) → (gives ≡ true → IfOk result (Attached schema Fact side table number)) → IfOk result (HeldSteps schema Fact table number gives made)
+      held : (side : Spot) (table number : ℕ) (gives : Bool) (made : Made) (result : Result Made Rule) → IfOk result (ReadyAfter schema Fact side table number made) → (gives ≡ true → IfOk result (Attached schema Fact side table number)) → IfOk result (HeldSteps schema Fact table number gives made)
       held side table number gives made (Ok after) kept attached = record { ready = kept.0; grows = kept.1; attached = λ is. (attached is).attached }
       held side table number gives made (Err broken) kept attached = tt

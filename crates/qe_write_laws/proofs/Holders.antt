@@ -1,19 +1,19 @@
 -- What each change keeps, steps on a field that holds a reference keep.
-use Rattle.std.proofs.Common.{◌≡◌, ℕ, Bool, true, false, not, ◌==◌, List, [], ◌∷◌, length, zip, Option, Some, None, slice_get, Result, Ok, Err, IfOk, refl, sym, ap, subst, ◌∙◌, true≢false}
+use Rattle.std.proofs.Common.{◌≡◌, ℕ, Bool, true, false, not, ◌==◌, List, [], ◌∷◌, length, zip, Option, Some, None, slice_get, Result, IfOk, refl, sym, ap, subst, ◌∙◌, true≢false}
 use Rattle.std.specs.List.{list_all, list_any}
 use Rattle.std.proofs.lemmas.Bool.{and_parts}
-use Rattle.psl_rules.specs.Updates.{In}
+use Rattle.qe_text.specs.Lists.{In}
 use Rattle.qe_base.specs.declared.value.RelId.{RelId}
 use Rattle.qe_base.specs.declared.value.Row.{Row}
 use Rattle.qe_base.specs.declared.schema.Field.TheVariants.{Holder}
 use Rattle.qe_base.specs.declared.schema.Relation.{Relation}
 use Rattle.qe_base.specs.declared.answer.Rule.{Rule}
 use Rattle.qe_base.specs.declared.write.Step.TheOpen as step
-use Rattle.qe_schema.specs.Schemas.{Schema}
-use Rattle.qe_tables.specs.Tables.{Tables, table_at, id_of}
-use Rattle.qe_reading.specs.Related.{field_at, one_related, is_some_such, is_many, is_to_many}
+use Rattle.qe_base.specs.Schemas.{Schema}
+use Rattle.qe_schema.specs.Tables.{Tables, table_at, id_of, field_at}
+use Rattle.qe_reading.specs.Related.{one_related, is_some_such, is_many, is_to_many}
 use Rattle.qe_reading.specs.Shape.{is_required}
-use Rattle.qe_writing.specs.State.{State, follow, or_absent, present}
+use Rattle.qe_writing.specs.WriteState.{WriteState, follow, or_absent, present}
 use Rattle.qe_writing.specs.Doomed.{place_of}
 use Rattle.qe_writing.specs.Delete.{nulls, delete_of}
 use Rattle.qe_writing.specs.Finding.{found}
@@ -22,17 +22,14 @@ use Rattle.qe_writing.specs.Ways.{relation_at}
 use Rattle.qe_writing.specs.Write.{Attached, Made, Holding, parent_table, attaching, make_parent, attach_or_make, keeping, update_row, update_or_make, null_own, null_own_if, delete_parent, on_held, on_new, kind_of, kinds, run_step, step_step}
 use Rattle.qe_writing.specs.WriteFits as fitting
 use Rattle.qe_writing.specs.WriteFits.{value_fits, handed_columns, is_needed}
-use Rattle.qe_write_laws.specs.Keeps.{Keeps}
-use Rattle.qe_write_laws.specs.Sound.{IsSound}
-use Rattle.qe_write_laws.proofs.Lists.{all_push, any_append_left, any_append_right, or_left, same_numbers}
-use Rattle.qe_write_laws.proofs.Columns.{with_columns_fit, lets_go_unneeded}
-use Rattle.qe_write_laws.proofs.Rows.{bind_ok}
-use Rattle.qe_write_laws.proofs.Ways.{Holds, Kept, then_keeps, fits_there, present_there, nothing_given}
-use Rattle.qe_write_laws.proofs.Steps.{any_ok, one_there, Ready, Attaches, StepKeeps, KeptCreate, KeptUpdate, KeptParts, runs_in, fits_in, update_row_keeps, reaching_keeps}
-
-pub ok_weaker : {A : Type 0} (r : Result A Rule) (P Q : A → Type 0) → IfOk r P → ((a : A) → P a → Q a) → IfOk r Q
-ok_weaker (Ok a) P Q is weaker = weaker a is
-ok_weaker (Err broken) P Q is weaker = tt
+use Rattle.qe_write_laws.specs.Keeps.{Keeps, StillHolds}
+use Rattle.qe_schema.specs.Sound.{IsSound}
+use Rattle.qe_write_laws.proofs.Results.{bind_ok, any_ok, ok_weaker}
+use Rattle.qe_write_laws.proofs.Lists.{all_push, same_numbers}
+use Rattle.qe_schema.proofs.Tests.{any_append_left, any_append_right, or_left}
+use Rattle.qe_write_laws.proofs.Columns.{with_columns_fit, lets_go_unneeded, is_of_child}
+use Rattle.qe_write_laws.proofs.Ways.{Holds, then_keeps, fits_there, present_there, nothing_given}
+use Rattle.qe_write_laws.proofs.Steps.{one_there, Ready, Attaches, StepKeeps, KeptCreate, KeptUpdate, KeptParts, runs_in, fits_in, update_row_keeps, reaching_keeps}
 
 not_true : (b : Bool) → not b ≡ true → b ≡ false
 not_true true is = absurd (true≢false (sym is))
@@ -41,9 +38,9 @@ not_true false is = refl
 module _ (schema : Schema) (Fact : Tables → Type 0) (sound : IsSound schema) (keeps : Keeps schema Fact) where
   module _ (table field : ℕ) (relation : RelId) (at : field_at schema table field ≡ Some (Holder relation)) where
     own_is : (relation_at schema relation.0).child.0 ≡ table
-    own_is = sound.holders table field relation at
+    own_is = is_of_child schema sound table field relation at
 
-    attaches : (made : Made) (state : State) → Holds schema Fact state → Ready schema Fact table made → Attaches schema Fact table relation.0 made (attaching relation.0 made state)
+    attaches : (made : Made) (state : WriteState) → Holds schema Fact state → Ready schema Fact table made → Attaches schema Fact table relation.0 made (attaching relation.0 made state)
     attaches made state holds ready =
         let new : Attached = record { relation = relation.0; place = length made.state.followed } in
         record {
@@ -67,7 +64,7 @@ module _ (schema : Schema) (Fact : Tables → Type 0) (sound : IsSound schema) (
     attach_or_make_ok create fits None made ready = make_parent_ok create fits made ready
     attach_or_make_ok create fits (Some parent) made ready = attach_parent_ok parent made ready
 
-    keeping_ok : (made : Made) → Ready schema Fact table made → (result : Result State Rule) → Kept schema Fact result → IfOk (keeping made result) (Ready schema Fact table)
+    keeping_ok : (made : Made) → Ready schema Fact table made → (result : Result WriteState Rule) → StillHolds Fact result → IfOk (keeping made result) (Ready schema Fact table)
     keeping_ok made ready result kept = bind_ok result _ (Holds schema Fact) (Ready schema Fact table) kept (λ state holds. record { holds = holds; own = ready.own })
 
     update_or_make_ok : (create : KeptCreate schema Fact) (update : KeptUpdate schema Fact) → create.fit.fits (parent_table schema relation.0) (handed_columns schema (field_at schema table field)) ≡ true → update.fit.fits (parent_table schema relation.0) ≡ true
@@ -81,7 +78,7 @@ module _ (schema : Schema) (Fact : Tables → Type 0) (sound : IsSound schema) (
     unneeded : not (is_needed schema table field) ≡ true → is_some_such (λ (found : Relation). not found.optional) (slice_get schema.relations relation.0) ≡ false
     unneeded is = sym (ap (is_some_such (is_required schema)) at) ∙ not_true (is_needed schema table field) is
 
-    null_own_keeps : not (is_needed schema table field) ≡ true → (row : Row) (state : State) → Holds schema Fact state → In row (state.tables.rows table) → Kept schema Fact (null_own schema table relation.0 row state)
+    null_own_keeps : not (is_needed schema table field) ≡ true → (row : Row) (state : WriteState) → Holds schema Fact state → In row (state.tables.rows table) → StillHolds Fact (null_own schema table relation.0 row state)
     null_own_keeps free row state holds there =
         let columns : List ℕ = (relation_at schema relation.0).child_columns in
         keeps.change table (id_of (table_at schema table) row) (with_columns columns (nulls columns) row) state
@@ -89,11 +86,11 @@ module _ (schema : Schema) (Fact : Tables → Type 0) (sound : IsSound schema) (
         (subst (λ t. list_all (value_fits schema t) (zip columns (nulls columns)) ≡ true) own_is (lets_go_unneeded schema sound relation.0 (unneeded free))))
         holds
 
-    null_own_if_keeps : not (is_needed schema table field) ≡ true → (row : Row) (parent : Option Row) (state : State) → Holds schema Fact state → In row (state.tables.rows table) → Kept schema Fact (null_own_if schema table relation.0 row parent state)
+    null_own_if_keeps : not (is_needed schema table field) ≡ true → (row : Row) (parent : Option Row) (state : WriteState) → Holds schema Fact state → In row (state.tables.rows table) → StillHolds Fact (null_own_if schema table relation.0 row parent state)
     null_own_if_keeps free row None state holds there = holds
     null_own_if_keeps free row (Some parent) state holds there = null_own_keeps free row state holds there
 
-    delete_parent_keeps : not (is_needed schema table field) ≡ true → (row parent : Row) (state : State) → Holds schema Fact state → In row (state.tables.rows table) → Kept schema Fact (delete_parent schema table relation.0 row parent state)
+    delete_parent_keeps : not (is_needed schema table field) ≡ true → (row parent : Row) (state : WriteState) → Holds schema Fact state → In row (state.tables.rows table) → StillHolds Fact (delete_parent schema table relation.0 row parent state)
     delete_parent_keeps free row parent state holds there =
         let other : ℕ = parent_table schema relation.0 in
         then_keeps schema Fact (null_own schema table relation.0 row (follow schema other parent state)) _ (null_own_keeps free row (follow schema other parent state) holds there) (λ after holds.

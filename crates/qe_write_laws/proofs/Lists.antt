@@ -1,44 +1,15 @@
 -- Lists, their tests and their members.
-use Rattle.std.proofs.Common.{◌≡◌, ◌⊎◌, inl, inr, ℕ, zero, suc, ◌+◌, Bool, true, false, ◌||◌, ◌==◌, List, [], ◌∷◌, ◌++◌, map, find, cond, length, zip, Option, Some, None, IfSome, option_map, is_some, unwrap_or, slice_get, refl, sym, ap, ◌∙◌, arith, true≢false}
+use Rattle.std.proofs.Common.{◌≡◌, inl, inr, ℕ, zero, suc, ◌+◌, Bool, true, false, ◌||◌, ◌==◌, List, [], ◌∷◌, ◌++◌, map, find, cond, length, zip, Option, Some, None, IfSome, option_map, is_some, slice_get, refl, sym, ap, ◌∙◌, arith, true≢false}
 use Rattle.std.specs.List.{list_all, list_any, AllByRecursion, enumerate_from}
 use Rattle.std.proofs.lemmas.Bool.{and_parts, and_from, eqb-true, eq-eqb}
-use Rattle.psl_rules.specs.Updates.{In}
+use Rattle.qe_text.specs.Lists.{In}
 
 -- ---- truth values
-
-pub or_parts : (a b : Bool) → (a || b) ≡ true → (a ≡ true) ⊎ (b ≡ true)
-or_parts true b is = inl refl
-or_parts false b is = inr is
-
-pub by_either : {P Q R : Type 0} → P ⊎ Q → (P → R) → (Q → R) → R
-by_either (inl p) first second = first p
-by_either (inr q) first second = second q
-
-pub or_right : (a b : Bool) → b ≡ true → (a || b) ≡ true
-or_right true b is = refl
-or_right false b is = is
-
-pub or_left : (a b : Bool) → a ≡ true → (a || b) ≡ true
-or_left a b is = ap (λ c. c || b) is
 
 pub same_numbers : (n : ℕ) → (n == n) ≡ true
 same_numbers n = eq-eqb n n refl
 
--- ---- options
-
-pub some_same : {A : Type 0} (x y : A) → Some x ≡ Some y → x ≡ y
-some_same x y same = ap (λ o. unwrap_or o x) same
-
-pub not_some : {A : Type 0} (x : A) → None ≡ Some x → ⊥
-not_some x same = true≢false (sym (ap is_some same))
-
 -- ---- members
-
-pub in_get : {A : Type 0} (xs : List A) (number : ℕ) (x : A) → slice_get xs number ≡ Some x → In x xs
-unfolding In
-in_get [] number x at = absurd (not_some x at)
-in_get (one ∷ xs) zero x at = inl (sym (some_same one x at))
-in_get (one ∷ xs) (suc number) x at = inr (in_get xs number x at)
 
 found_behind : {A : Type 0} (x : A) (xs : List A) (o : Option A) → IfSome o (λ y. In y xs) → IfSome o (λ y. In y (x ∷ xs))
 unfolding In
@@ -53,11 +24,6 @@ found_at x xs o false rest = found_behind x xs o rest
 pub in_find : {A : Type 0} (p : A → Bool) (xs : List A) → IfSome (find p xs) (λ x. In x xs)
 in_find p [] = tt
 in_find p (x ∷ xs) = found_at x xs (find p xs) (p x) (in_find p xs)
-
-pub in_all : {A : Type 0} (P : A → Type 0) (xs : List A) → ((x : A) → In x xs → P x) → AllByRecursion P xs
-unfolding In
-in_all P [] each = tt
-in_all P (x ∷ xs) each = (each x (inl refl), in_all P xs (λ y is_in. each y (inr is_in)))
 
 -- ---- all items
 
@@ -76,26 +42,6 @@ all_from_test p (x ∷ xs) all = let parts = and_parts (p x) (list_all p xs) all
 pub all_append : {A : Type 0} (p : A → Bool) (xs ys : List A) → list_all p xs ≡ true → list_all p ys ≡ true → list_all p (xs ++ ys) ≡ true
 all_append p [] ys first second = second
 all_append p (x ∷ xs) ys first second = let parts = and_parts (p x) (list_all p xs) first in and_from (p x) (list_all p (xs ++ ys)) parts.0 (all_append p xs ys parts.1 second)
-
--- ---- some item
-
-pub any_append_left : {A : Type 0} (p : A → Bool) (xs ys : List A) → list_any p xs ≡ true → list_any p (xs ++ ys) ≡ true
-any_append_left p [] ys some = absurd (true≢false (sym some))
-any_append_left p (x ∷ xs) ys some = by_either (or_parts (p x) (list_any p xs) some) (or_left (p x) (list_any p (xs ++ ys))) (λ there. or_right (p x) (list_any p (xs ++ ys)) (any_append_left p xs ys there))
-
-pub any_append_right : {A : Type 0} (p : A → Bool) (xs ys : List A) → list_any p ys ≡ true → list_any p (xs ++ ys) ≡ true
-any_append_right p [] ys some = some
-any_append_right p (x ∷ xs) ys some = or_right (p x) (list_any p (xs ++ ys)) (any_append_right p xs ys some)
-
-pub any_append_parts : {A : Type 0} (p : A → Bool) (xs ys : List A) → list_any p (xs ++ ys) ≡ true → (list_any p xs ≡ true) ⊎ (list_any p ys ≡ true)
-any_append_parts p [] ys some = inr some
-any_append_parts p (x ∷ xs) ys some =
-    by_either (or_parts (p x) (list_any p (xs ++ ys)) some) (λ here. inl (or_left (p x) (list_any p xs) here))
-    (λ there. by_either (any_append_parts p xs ys there) (λ first. inl (or_right (p x) (list_any p xs) first)) (λ second. inr second))
-
-pub any_weaker : {A : Type 0} (p q : A → Bool) → ((x : A) → p x ≡ true → q x ≡ true) → (xs : List A) → list_any p xs ≡ true → list_any q xs ≡ true
-any_weaker p q weaker [] some = absurd (true≢false (sym some))
-any_weaker p q weaker (x ∷ xs) some = by_either (or_parts (p x) (list_any p xs) some) (λ here. or_left (q x) (list_any q xs) (weaker x here)) (λ there. or_right (q x) (list_any q xs) (any_weaker p q weaker xs there))
 
 -- ---- maps and pairs
 

@@ -8,20 +8,19 @@ use Rattle.qe_base.specs.declared.value.RelId.{RelId}
 use Rattle.qe_base.specs.declared.schema.Field.{Field}
 use Rattle.qe_base.specs.declared.schema.Field.TheVariants.{Scalar, Holder, Target, SideA, SideB}
 use Rattle.qe_base.specs.declared.answer.Rule.{Rule}
-use Rattle.qe_schema.specs.Schemas.{Schema}
-use Rattle.qe_tables.specs.Tables.{Tables, table_at}
-use Rattle.qe_reading.specs.Related.{field_at, led_to_by}
-use Rattle.qe_writing.specs.State.{◌>>=◌}
+use Rattle.qe_base.specs.Schemas.{Schema}
+use Rattle.qe_schema.specs.Tables.{Tables, table_at, field_at}
+use Rattle.qe_reading.specs.Related.{led_to_by}
+use Rattle.qe_writing.specs.WriteState.{◌>>=◌}
 use Rattle.qe_writing.specs.Ways.{Way, to_children, to_linked}
-use Rattle.qe_writing.specs.Write.{Made, Side, Holding, Reaching, FieldRuns, kinds, chosen, run_kinds, run_field, run_holders, run_others, fields_of}
+use Rattle.qe_writing.specs.Write.{Made, Spot, Holding, Reaching, FieldRuns, kinds, chosen, run_kinds, run_field, run_holders, run_others, fields_of}
 use Rattle.qe_writing.specs.WriteFits.{FittingSteps}
 use Rattle.qe_write_laws.specs.Keeps.{Keeps}
-use Rattle.qe_write_laws.specs.Sound.{IsSound}
-use Rattle.qe_write_laws.proofs.Lists.{or_parts, by_either}
-use Rattle.qe_write_laws.proofs.Rows.{bind_ok}
+use Rattle.qe_schema.specs.Sound.{IsSound}
+use Rattle.qe_schema.proofs.Tests.{or_parts, by_either}
+use Rattle.qe_write_laws.proofs.Results.{bind_ok, ok_weaker}
 use Rattle.qe_write_laws.proofs.Ways.{WayKeeps, children_way, linked_way_a, linked_way_b}
 use Rattle.qe_write_laws.proofs.Steps.{has, Ready, HeldSteps, KeptSteps}
-use Rattle.qe_write_laws.proofs.Holders.{ok_weaker}
 use Rattle.qe_write_laws.proofs.Fields.{FieldRunsKeep, run_field_keeps}
 
 -- the fields from a number on
@@ -120,7 +119,7 @@ module _ (schema : Schema) (Fact : Tables → Type 0) where
   field_attaches table field relation at [] fit gives made ready = absurd (true≢false (sym gives))
   field_attaches table field relation at (one ∷ rest) fit gives made ready = by_test (one.runs.field == field) refl (field_attaches table field relation at rest parts.1)
     where
-      side : Side
+      side : Spot
       side = Holding table field relation.0 None
 
       parts : (one.fit.fits true table ≡ true) × (list_all (λ (other : FittingSteps). other.fits true table) (fits_of rest) ≡ true)

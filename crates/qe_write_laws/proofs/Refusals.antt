@@ -1,5 +1,5 @@
 -- Refused operations, and those that only read, leave the tables as they were.
-use Rattle.std.proofs.Common.{◌≡◌, ℕ, ◌+◌, true, List, [], ◌∷◌, Option, Some, None, Result, Ok, Err, IfOk, is_ok, refl, sym, ap, ◌∙◌, true≢false}
+use Rattle.std.proofs.Common.{◌≡◌, ℕ, ◌+◌, true, List, [], ◌∷◌, Result, Ok, Err, IfOk, is_ok, refl, sym, ap, ◌∙◌, true≢false}
 use Rattle.std.specs.List.{list_all}
 use Rattle.std.proofs.lemmas.Bool.{and_parts}
 use Rattle.qe_base.specs.declared.answer.Answer.{Answer}
@@ -7,25 +7,34 @@ use Rattle.qe_base.specs.declared.answer.Outside.{Outside}
 use Rattle.qe_base.specs.declared.answer.Rule.{Rule}
 use Rattle.qe_base.specs.declared.write.Op.{Op}
 use Rattle.qe_base.specs.declared.write.Op.TheVariants as op
-use Rattle.qe_schema.specs.Schemas.{Schema}
-use Rattle.qe_tables.specs.Tables.{Tables}
-use Rattle.qe_writing.specs.Batch.{Answers, Refusal, with_answer, or_refusal, outside_of, all_from, all_done, plain_all}
-use Rattle.qe_writing.specs.Plain.{Changed, Done, plain, read_or_done, write_by}
-use Rattle.qe_reading.specs.Read.{read_of}
-use Rattle.qe_write_laws.specs.Reads.{only_reads}
+use Rattle.qe_base.specs.Schemas.{Schema}
+use Rattle.qe_schema.specs.Tables.{Tables}
+use Rattle.qe_writing.specs.Batch.{AllAnswered, Refusal, with_answer, or_refusal, outside_of, all_from, all_done, plain_all}
+use Rattle.qe_writing.specs.Plain.{Changed, Done, create_one, create_many, update_one, update_many, update_or_create, delete_one, delete_many, done, plain}
+use Rattle.qe_writing.specs.WriteState.{◌>>=◌, or_absent}
+use Rattle.qe_reading.specs.Read.{found_at}
+use Rattle.qe_write_laws.specs.OnlyReads.{only_reads}
 
 -- ---- refusals
 
-left : (tables : Tables) (written : Result Changed Rule) (read : Option (Result Answer Rule)) (broken : Rule) → (read_or_done tables written read).answer ≡ Err broken → (read_or_done tables written read).tables ≡ tables
-left tables (Ok after) None broken refused = absurd (true≢false (ap is_ok refused))
-left tables (Err other) None broken refused = refl
-left tables (Ok after) (Some read) broken refused = refl
-left tables (Err other) (Some read) broken refused = refl
+done_leaves : (tables : Tables) (result : Result Changed Rule) (broken : Rule) → (done tables result).answer ≡ Err broken → (done tables result).tables ≡ tables
+done_leaves tables (Ok after) broken refused = absurd (true≢false (ap is_ok refused))
+done_leaves tables (Err other) broken refused = refl
 
 pub refused_leaves : (schema : Schema) (op : Op) (outside : Outside) (tables : Tables) (broken : Rule) → (plain schema op outside tables).answer ≡ Err broken → (plain schema op outside tables).tables ≡ tables
-refused_leaves schema op outside tables broken = left tables (write_by schema op outside tables) (read_of schema tables op) broken
+refused_leaves schema (op.FindUnique table at strict pick) outside tables broken refused = refl
+refused_leaves schema (op.FindFirst table look strict pick) outside tables broken refused = refl
+refused_leaves schema (op.FindMany table look pick) outside tables broken refused = refl
+refused_leaves schema (op.Count table look) outside tables broken refused = refl
+refused_leaves schema (op.Create table tree pick) outside tables broken refused = done_leaves tables (create_one schema outside table.0 tree pick tables) broken refused
+refused_leaves schema (op.CreateMany table trees pick) outside tables broken refused = done_leaves tables (create_many schema outside table.0 trees pick tables) broken refused
+refused_leaves schema (op.Update table at tree pick) outside tables broken refused = done_leaves tables (or_absent table.0 (found_at schema tables table.0 at) >>= λ row. update_one schema outside table.0 tree pick row tables) broken refused
+refused_leaves schema (op.UpdateMany table matching tree) outside tables broken refused = done_leaves tables (update_many schema outside table.0 matching tree tables) broken refused
+refused_leaves schema (op.Upsert table at create update pick) outside tables broken refused = done_leaves tables (update_or_create schema outside table.0 create update pick (found_at schema tables table.0 at) tables) broken refused
+refused_leaves schema (op.Delete table at pick) outside tables broken refused = done_leaves tables (or_absent table.0 (found_at schema tables table.0 at) >>= λ row. delete_one schema table.0 pick row tables) broken refused
+refused_leaves schema (op.DeleteMany table matching) outside tables broken refused = done_leaves tables (delete_many schema table.0 matching tables) broken refused
 
-all_left : (tables : Tables) (result : Result Answers Refusal) (refusal : Refusal) → (all_done tables result).answers ≡ Err refusal → (all_done tables result).tables ≡ tables
+all_left : (tables : Tables) (result : Result AllAnswered Refusal) (refusal : Refusal) → (all_done tables result).answers ≡ Err refusal → (all_done tables result).tables ≡ tables
 all_left tables (Ok all) refusal refused = absurd (true≢false (ap is_ok refused))
 all_left tables (Err other) refusal refused = refl
 
@@ -48,18 +57,18 @@ read_leaves schema (op.Delete table at pick) outside tables reads = absurd (true
 read_leaves schema (op.DeleteMany table asked) outside tables reads = absurd (true≢false (sym reads))
 
 -- the tables at the end are these
-abbrev EndAt : Tables → Result Answers Refusal → Type 0
+abbrev EndAt : Tables → Result AllAnswered Refusal → Type 0
 EndAt tables result = IfOk result (λ all. all.tables ≡ tables)
 
-with_answer_ends : (tables : Tables) (answer : Answer) (result : Result Answers Refusal) → EndAt tables result → EndAt tables (with_answer answer result)
+with_answer_ends : (tables : Tables) (answer : Answer) (result : Result AllAnswered Refusal) → EndAt tables result → EndAt tables (with_answer answer result)
 with_answer_ends tables answer (Ok rest) ends = ends
 with_answer_ends tables answer (Err refusal) ends = tt
 
-or_refusal_ends : (tables : Tables) (number : ℕ) (answer : Result Answer Rule) (next : Answer → Result Answers Refusal) → ((answer : Answer) → EndAt tables (next answer)) → EndAt tables (or_refusal number answer next)
+or_refusal_ends : (tables : Tables) (number : ℕ) (answer : Result Answer Rule) (next : Answer → Result AllAnswered Refusal) → ((answer : Answer) → EndAt tables (next answer)) → EndAt tables (or_refusal number answer next)
 or_refusal_ends tables number (Ok answer) next ends = ends answer
 or_refusal_ends tables number (Err broken) next ends = tt
 
-moved_end : (tables before : Tables) → before ≡ tables → (result : Result Answers Refusal) → EndAt before result → EndAt tables result
+moved_end : (tables before : Tables) → before ≡ tables → (result : Result AllAnswered Refusal) → EndAt before result → EndAt tables result
 moved_end tables before same (Ok all) ends = ends ∙ same
 moved_end tables before same (Err refusal) ends = tt
 
@@ -71,7 +80,7 @@ all_from_ends schema (op ∷ ops) outside number tables reads =
     or_refusal_ends tables number first.answer _ (λ answer. with_answer_ends tables answer (all_from schema ops outside (number + 1) first.tables)
     (moved_end tables first.tables (read_leaves schema op (outside_of outside number) tables parts.0) (all_from schema ops outside (number + 1) first.tables) (all_from_ends schema ops outside (number + 1) first.tables parts.1)))
 
-all_done_ends : (tables : Tables) (result : Result Answers Refusal) → EndAt tables result → (all_done tables result).tables ≡ tables
+all_done_ends : (tables : Tables) (result : Result AllAnswered Refusal) → EndAt tables result → (all_done tables result).tables ≡ tables
 all_done_ends tables (Ok all) ends = ends
 all_done_ends tables (Err refusal) ends = refl
 

@@ -19,33 +19,21 @@ use Rattle.qe_base.specs.declared.answer.Why.{Why}
 use Rattle.qe_base.specs.declared.answer.Why.TheVariants as why
 use Rattle.qe_base.specs.declared.write.Edit.{Edit}
 use Rattle.qe_base.specs.declared.write.Edit.TheVariants.{Set, Add, Subtract, Multiply, Divide}
-use Rattle.qe_schema.specs.Schemas.{Schema}
-use Rattle.qe_tables.specs.Columns.{value_at}
-use Rattle.qe_tables.specs.Fits.{fits_column, fit_columns, is_of_kind, has_number, has_moment}
-use Rattle.qe_tables.specs.Tables.{Tables, table_at}
+use Rattle.qe_base.specs.Schemas.{Schema}
+use Rattle.qe_schema.specs.Columns.{value_at}
+use Rattle.qe_schema.specs.Fits.{fits_column, fit_columns, is_of_kind, has_number, has_moment}
+use Rattle.qe_schema.specs.Tables.{Tables, table_at, column_at}
 use Rattle.qe_reading.specs.Related.{is_some_such}
-use Rattle.qe_reading.specs.Fits.{column_at}
-use Rattle.qe_writing.specs.State.{◌>>=◌}
 use Rattle.qe_writing.specs.Fill.{Found, identifier, at_moment, counted, with_drawn, fill_value, ungiven, value_in, given_for, fill_from, filled}
 use Rattle.qe_writing.specs.Edits.{within, on_number, quotient, edit_value, or_no_value, unedited, edited_value, edit_for, edit_from, edited}
-use Rattle.qe_writing.specs.WriteFits.{value_fits, edit_suits, edit_fits, is_absent, must_be_given, is_one_of, are_enough}
+use Rattle.qe_writing.specs.Numbers.{is_one_of}
+use Rattle.qe_writing.specs.WriteFits.{value_fits, edit_suits, edit_fits, is_absent, must_be_given, are_enough}
 use Rattle.qe_write_laws.specs.Keeps.{row_fits}
-use Rattle.qe_write_laws.specs.Sound.{FillSuits, ColumnSuits, IsSound}
+use Rattle.qe_schema.specs.Fields.{FillSuits, ColumnSuits}
+use Rattle.qe_schema.specs.Sound.{IsSound}
+use Rattle.qe_write_laws.proofs.Results.{bind_ok, if_ok}
 use Rattle.qe_write_laws.proofs.Lists.{all_with, all_from_test, numbered, seconds_from, entry_passes, entry_there}
 use Rattle.qe_write_laws.proofs.Columns as columns
-
--- one part after another, with what is known of the first
-pub bind_ok : {A B : Type 0} (r : Result A Rule) (f : A → Result B Rule) (P : A → Type 0) (Q : B → Type 0) → IfOk r P → ((a : A) → P a → IfOk (f a) Q) → IfOk (r >>= f) Q
-bind_ok (Ok a) f P Q h k = k a h
-bind_ok (Err e) f P Q h k = tt
-
-by_flag : {A E : Type 0} (flag b : Bool) (a : A) (e : E) (P : A → Type 0) → flag ≡ b → (flag ≡ true → P a) → IfOk {T = A} {E = E} (if b then Ok a else Err e) P
-by_flag flag true a e P is holds = holds is
-by_flag flag false a e P is holds = tt
-
--- what is made only where it is right
-pub if_ok : {A E : Type 0} (flag : Bool) (a : A) (e : E) (P : A → Type 0) → (flag ≡ true → P a) → IfOk {T = A} {E = E} (if flag then Ok a else Err e) P
-if_ok flag a e P = by_flag flag flag a e P refl
 
 -- ---- values for columns
 
@@ -176,29 +164,34 @@ or_no_value_fits : (choices : List Choice) (column : Column) (table number : ℕ
 or_no_value_fits choices column table number (Ok value) fits = fits
 or_no_value_fits choices column table number (Err because) fits = tt
 
-unedited_fits : (choices : List Choice) (column : Column) (table number : ℕ) (outside : Outside) (old : Value) → ColumnSuits choices column → fits_column choices column old ≡ true → ResultFits choices column (unedited table number column outside old)
-unedited_fits choices column table number outside old suits fits = by_test column.updated refl
+unedited_fits : (choices : List Choice) (column : Column) (table number : ℕ) (given : Bool) (outside : Outside) (old : Value) → ColumnSuits choices column → fits_column choices column old ≡ true → ResultFits choices column (unedited table number column given outside old)
+unedited_fits choices column table number true outside old suits fits = by_updated column.updated
   where
-    by_test : (b : Bool) → column.updated ≡ b → ResultFits choices column (if b then at_moment table number outside else Ok old)
-    by_test true is = moment_fits choices column table number outside (suits.updated is)
-    by_test false is = fits
+    by_updated : (b : Bool) → ResultFits choices column (if b && not true then at_moment table number outside else Ok old)
+    by_updated true = fits
+    by_updated false = fits
+unedited_fits choices column table number false outside old suits fits = by_updated column.updated refl
+  where
+    by_updated : (b : Bool) → column.updated ≡ b → ResultFits choices column (if b && not false then at_moment table number outside else Ok old)
+    by_updated true is = moment_fits choices column table number outside (suits.updated is)
+    by_updated false is = fits
 
-edited_value_fits : (choices : List Choice) (column : Column) (table number : ℕ) (outside : Outside) (old : Value) (edit : Option Edit) → ColumnSuits choices column → fits_column choices column old ≡ true → IfSome edit (λ edit. edit_suits choices column edit ≡ true)
-    → ResultFits choices column (edited_value table number column outside old edit)
-edited_value_fits choices column table number outside old None suits fits right = unedited_fits choices column table number outside old suits fits
-edited_value_fits choices column table number outside old (Some edit) suits fits right = or_no_value_fits choices column table number (edit_value column.kind edit old) (edit_value_fits choices column edit old right fits)
+edited_value_fits : (choices : List Choice) (column : Column) (table number : ℕ) (given : Bool) (outside : Outside) (old : Value) (edit : Option Edit) → ColumnSuits choices column → fits_column choices column old ≡ true → IfSome edit (λ edit. edit_suits choices column edit ≡ true)
+    → ResultFits choices column (edited_value table number column given outside old edit)
+edited_value_fits choices column table number given outside old None suits fits right = unedited_fits choices column table number given outside old suits fits
+edited_value_fits choices column table number given outside old (Some edit) suits fits right = or_no_value_fits choices column table number (edit_value column.kind edit old) (edit_value_fits choices column edit old right fits)
 
 abbrev EditRight : List Choice → List (ℕ × Edit) → Row → (ℕ × Column) → Type 0
 EditRight choices edits row numbered = ColumnSuits choices numbered.1 × (fits_column choices numbered.1 (value_at row numbered.0) ≡ true) × IfSome (edit_for numbered.0 edits) (λ edit. edit_suits choices numbered.1 edit ≡ true)
 
-edit_from_fits : (choices : List Choice) (table : ℕ) (outside : Outside) (edits : List (ℕ × Edit)) (row : Row) (columns : List (ℕ × Column)) → AllByRecursion (EditRight choices edits row) columns
-    → IfOk (edit_from table outside edits row columns) (λ values. fit_columns choices (map (λ numbered. numbered.1) columns) values ≡ true)
-edit_from_fits choices table outside edits row [] right = refl
-edit_from_fits choices table outside edits row (numbered ∷ columns) right =
-    bind_ok (edited_value table numbered.0 numbered.1 outside (value_at row numbered.0) (edit_for numbered.0 edits)) _ (λ value. fits_column choices numbered.1 value ≡ true) (λ values. fit_columns choices (numbered.1 ∷ map (λ one. one.1) columns) values ≡ true)
-    (edited_value_fits choices numbered.1 table numbered.0 outside (value_at row numbered.0) (edit_for numbered.0 edits) right.0.0 right.0.1 right.0.2)
-    (λ one fits. bind_ok (edit_from table outside edits row columns) _ (λ values. fit_columns choices (map (λ other. other.1) columns) values ≡ true) (λ values. fit_columns choices (numbered.1 ∷ map (λ other. other.1) columns) values ≡ true)
-    (edit_from_fits choices table outside edits row columns right.1)
+edit_from_fits : (choices : List Choice) (table : ℕ) (outside : Outside) (edits : List (ℕ × Edit)) (given : List ℕ) (row : Row) (columns : List (ℕ × Column)) → AllByRecursion (EditRight choices edits row) columns
+    → IfOk (edit_from table outside edits given row columns) (λ values. fit_columns choices (map (λ numbered. numbered.1) columns) values ≡ true)
+edit_from_fits choices table outside edits given row [] right = refl
+edit_from_fits choices table outside edits given row (numbered ∷ columns) right =
+    bind_ok (edited_value table numbered.0 numbered.1 (is_one_of given numbered.0) outside (value_at row numbered.0) (edit_for numbered.0 edits)) _ (λ value. fits_column choices numbered.1 value ≡ true) (λ values. fit_columns choices (numbered.1 ∷ map (λ one. one.1) columns) values ≡ true)
+    (edited_value_fits choices numbered.1 table numbered.0 (is_one_of given numbered.0) outside (value_at row numbered.0) (edit_for numbered.0 edits) right.0.0 right.0.1 right.0.2)
+    (λ one fits. bind_ok (edit_from table outside edits given row columns) _ (λ values. fit_columns choices (map (λ other. other.1) columns) values ≡ true) (λ values. fit_columns choices (numbered.1 ∷ map (λ other. other.1) columns) values ≡ true)
+    (edit_from_fits choices table outside edits given row columns right.1)
     (λ others rest. and_from (fits_column choices numbered.1 one) (fit_columns choices (map (λ other. other.1) columns) others) fits rest))
 
 edit_right : (schema : Schema) (table number : ℕ) (column : Column) (o : Option Edit) → column_at schema table number ≡ Some column → IfSome o (λ edit. edit_fits schema table (number, edit) ≡ true) → IfSome o (λ edit. edit_suits schema.choices column edit ≡ true)
@@ -206,11 +199,11 @@ edit_right schema table number column None at passes = tt
 edit_right schema table number column (Some edit) at passes = subst (λ o. is_some_such (λ (found : Column). edit_suits schema.choices found edit) o ≡ true) at passes
 
 -- a row that fits does so after edits that fit
-pub edited_fits : (schema : Schema) → IsSound schema → (table : ℕ) (edits : List (ℕ × Edit)) (outside : Outside) (row : Row) → list_all (edit_fits schema table) edits ≡ true → row_fits schema table row ≡ true → IfOk (edited schema table edits outside row) (λ new. row_fits schema table new ≡ true)
-edited_fits schema sound table edits outside row fit fits =
-    bind_ok (edit_from table outside edits row (enumerate_from 0 (table_at schema table).columns)) _ (λ values. fit_columns schema.choices (table_at schema table).columns values ≡ true) (λ new. row_fits schema table new ≡ true)
-    (subst (λ (columns : List Column). IfOk (edit_from table outside edits row (enumerate_from 0 (table_at schema table).columns)) (λ values. fit_columns schema.choices columns values ≡ true)) (seconds_from 0 (table_at schema table).columns)
-    (edit_from_fits schema.choices table outside edits row (enumerate_from 0 (table_at schema table).columns)
+pub edited_fits : (schema : Schema) → IsSound schema → (table : ℕ) (edits : List (ℕ × Edit)) (given : List ℕ) (outside : Outside) (row : Row) → list_all (edit_fits schema table) edits ≡ true → row_fits schema table row ≡ true → IfOk (edited schema table edits given outside row) (λ new. row_fits schema table new ≡ true)
+edited_fits schema sound table edits given outside row fit fits =
+    bind_ok (edit_from table outside edits given row (enumerate_from 0 (table_at schema table).columns)) _ (λ values. fit_columns schema.choices (table_at schema table).columns values ≡ true) (λ new. row_fits schema table new ≡ true)
+    (subst (λ (columns : List Column). IfOk (edit_from table outside edits given row (enumerate_from 0 (table_at schema table).columns)) (λ values. fit_columns schema.choices columns values ≡ true)) (seconds_from 0 (table_at schema table).columns)
+    (edit_from_fits schema.choices table outside edits given row (enumerate_from 0 (table_at schema table).columns)
     (all_with (λ numbered. column_at schema table numbered.0 ≡ Some numbered.1) (λ numbered. column_at schema table numbered.0 ≡ Some numbered.1) (EditRight schema.choices edits row) (enumerate_from 0 (table_at schema table).columns)
     (λ numbered at also. (sound.columns table numbered.0 numbered.1 at, columns.value_in schema.choices (table_at schema table).columns row.values numbered.0 numbered.1 fits at, edit_right schema table numbered.0 numbered.1 (edit_for numbered.0 edits) at (entry_passes (edit_fits schema table) numbered.0 edits fit)))
     (numbered (table_at schema table).columns) (numbered (table_at schema table).columns))))

@@ -4,7 +4,7 @@ use Rattle.std.specs.Prelude.{if◌then◌else◌}
 use Rattle.std.specs.List.{list_all, enumerate_from, AllByRecursion}
 use Rattle.std.proofs.lemmas.Bool.{and_parts, and_from, eqb-true}
 use Rattle.std.proofs.lemmas.List.Folds.{list_all-map}
-use Rattle.psl_rules.specs.Updates.{In}
+use Rattle.qe_text.specs.Lists.{In}
 use Rattle.qe_base.specs.declared.value.RelId.{RelId}
 use Rattle.qe_base.specs.declared.value.Row.{Row}
 use Rattle.qe_base.specs.declared.value.Value.{Value}
@@ -13,27 +13,30 @@ use Rattle.qe_base.specs.declared.schema.Field.{Field}
 use Rattle.qe_base.specs.declared.schema.Field.TheVariants.{Scalar, Holder, Target, SideA, SideB}
 use Rattle.qe_base.specs.declared.answer.Outside.{Outside}
 use Rattle.qe_base.specs.declared.write.Edit.{Edit}
-use Rattle.qe_schema.specs.Schemas.{Schema}
-use Rattle.qe_tables.specs.Columns.{at_columns}
-use Rattle.qe_tables.specs.Put.{put_of}
-use Rattle.qe_tables.specs.Fits.{fit_columns}
-use Rattle.qe_tables.specs.Tables.{Tables, table_at, id_of, is_model}
-use Rattle.qe_reading.specs.Related.{field_at}
-use Rattle.qe_writing.specs.State.{State, follow, unfollow, present}
+use Rattle.qe_base.specs.Schemas.{Schema}
+use Rattle.qe_schema.specs.Columns.{at_columns}
+use Rattle.qe_schema.specs.Put.{put_of}
+use Rattle.qe_schema.specs.Fits.{fit_columns}
+use Rattle.qe_schema.specs.Tables.{Tables, table_at, id_of, is_model, field_at}
+use Rattle.qe_writing.specs.WriteState.{WriteState, follow, unfollow, present}
 use Rattle.qe_writing.specs.Change.{change_of}
 use Rattle.qe_writing.specs.Fill.{Filled, filled}
 use Rattle.qe_writing.specs.Edits.{edited}
+use Rattle.qe_writing.specs.Numbers.{is_one_of, are_distinct}
+use Rattle.qe_writing.specs.Held.{held_columns}
 use Rattle.qe_writing.specs.Ways.{relation_at}
-use Rattle.qe_writing.specs.Write.{Attached, made_of, parent_table, references, row_of_values, put_new, set_edit, fields_of, run_holders, run_others, create_step, update_step}
+use Rattle.qe_writing.specs.Write.{Attached, made_of, parent_table, references, row_of_values, put_new, set_edit, fields_of, run_holders, run_others, create_step, given_columns, update_step}
 use Rattle.qe_writing.specs.WriteFits as fitting
-use Rattle.qe_writing.specs.WriteFits.{FittingSteps, value_fits, edit_fits, is_one_of, are_distinct, must_be_given, are_enough, held_columns, taken_columns, nested_fit, columns_fit}
-use Rattle.qe_write_laws.specs.Keeps.{Keeps, row_fits}
-use Rattle.qe_write_laws.specs.Sound.{IsSound}
-use Rattle.qe_write_laws.proofs.Lists.{or_parts, or_left, or_right, by_either, all_append, any_append_left, any_append_right, any_append_parts, map_append, firsts, same_numbers}
+use Rattle.qe_writing.specs.WriteFits.{FittingSteps, value_fits, edit_fits, must_be_given, are_enough, taken_columns, nested_fit, columns_fit}
+use Rattle.qe_write_laws.specs.Keeps.{Keeps, row_fits, StillHolds}
+use Rattle.qe_schema.specs.Sound.{IsSound}
+use Rattle.qe_write_laws.proofs.Results.{bind_ok, any_ok}
+use Rattle.qe_write_laws.proofs.Lists.{all_append, map_append, firsts, same_numbers}
+use Rattle.qe_schema.proofs.Tests.{or_parts, or_left, or_right, by_either, any_append_left, any_append_right, any_append_parts}
 use Rattle.qe_write_laws.proofs.Columns.{hands_on, counts_right}
-use Rattle.qe_write_laws.proofs.Rows.{bind_ok, filled_fits, edited_fits}
-use Rattle.qe_write_laws.proofs.Ways.{Holds, Kept, then_keeps, fits_there, present_there}
-use Rattle.qe_write_laws.proofs.Steps.{any_ok, has, Ready, CreatesKeep, UpdatesKeep, KeptSteps}
+use Rattle.qe_write_laws.proofs.Rows.{filled_fits, edited_fits}
+use Rattle.qe_write_laws.proofs.Ways.{Holds, then_keeps, fits_there, present_there}
+use Rattle.qe_write_laws.proofs.Steps.{has, Ready, CreatesKeep, UpdatesKeep, KeptSteps}
 use Rattle.qe_write_laws.proofs.Passes.{runs_of, fits_of, gives_at, AllAttached, holders_new, holders_old, others_keep}
 
 -- ---- columns that are given
@@ -77,7 +80,7 @@ module _ (schema : Schema) (Fact : Tables → Type 0) (sound : IsSound schema) (
       first : List (ℕ × Value)
       first = zip (relation_at schema one.relation).child_columns (at_columns (relation_at schema one.relation).parent_columns parent)
 
-  references_right : (table : ℕ) (attached : List Attached) (state : State) → Holds schema Fact state → AllByRecursion (λ (one : Attached). (relation_at schema one.relation).child.0 ≡ table) attached → IfOk (references schema attached state) (TakenRight table attached)
+  references_right : (table : ℕ) (attached : List Attached) (state : WriteState) → Holds schema Fact state → AllByRecursion (λ (one : Attached). (relation_at schema one.relation).child.0 ≡ table) attached → IfOk (references schema attached state) (TakenRight table attached)
   references_right table [] state holds own = record { fit = refl; enough = λ number there. absurd (true≢false (sym there)) }
   references_right table (one ∷ others) state holds own =
       let other : ℕ = parent_table schema one.relation in
@@ -121,7 +124,7 @@ module _ (schema : Schema) (Fact : Tables → Type 0) (sound : IsSound schema) (
 
   -- ---- a new row
 
-  put_new_keeps : (table : ℕ) (new : Filled) (state : State) → is_model schema table ≡ true → fit_columns schema.choices (table_at schema table).columns new.values ≡ true → Holds schema Fact state → Kept schema Fact (put_new schema table new state)
+  put_new_keeps : (table : ℕ) (new : Filled) (state : WriteState) → is_model schema table ≡ true → fit_columns schema.choices (table_at schema table).columns new.values ≡ true → Holds schema Fact state → StillHolds Fact (put_new schema table new state)
   put_new_keeps table new state model fits holds = bind_ok (put_of schema table (row_of_values new.values) state.tables) _ Fact (Holds schema Fact) (keeps.put table (row_of_values new.values) state.tables model fits holds) (λ tables fact. fact)
 
   pub create_keeps : (outside : Outside) (values : List (ℕ × Value)) (all : List (KeptSteps schema Fact))
@@ -160,8 +163,8 @@ module _ (schema : Schema) (Fact : Tables → Type 0) (sound : IsSound schema) (
       bind_ok (run_holders table (Some own) (runs_of schema Fact all) (fields_of schema table) 0 (made_of state [])) _ (Ready schema Fact table) (Holds schema Fact) (holders_old schema Fact table own all steps (made_of state []) (record { holds = holds; own = tt })) (λ made ready.
       bind_ok (present schema table own made.state) _ (λ row. In row (made.state.tables.rows table)) (Holds schema Fact) (present_there schema table own made.state) (λ row there.
       bind_ok (references schema made.attached made.state) _ (TakenRight table made.attached) (Holds schema Fact) (references_right table made.attached made.state ready.holds ready.own) (λ taken right.
-      bind_ok (edited schema table (edits ++ map set_edit taken) outside row) _ (λ new. row_fits schema table new ≡ true) (Holds schema Fact)
-      (edited_fits schema sound table (edits ++ map set_edit taken) outside row (all_append (edit_fits schema table) edits (map set_edit taken) front.1 (set_edits_fit table taken right.fit)) (fits_there schema Fact sound keeps table made.state row ready.holds there)) (λ new new_fits.
+      bind_ok (edited schema table (edits ++ map set_edit taken) (given_columns schema table (runs_of schema Fact all)) outside row) _ (λ new. row_fits schema table new ≡ true) (Holds schema Fact)
+      (edited_fits schema sound table (edits ++ map set_edit taken) (given_columns schema table (runs_of schema Fact all)) outside row (all_append (edit_fits schema table) edits (map set_edit taken) front.1 (set_edits_fit table taken right.fit)) (fits_there schema Fact sound keeps table made.state row ready.holds there)) (λ new new_fits.
       then_keeps schema Fact (change_of schema table (id_of (table_at schema table) row) new made.state) _ (keeps.change table (id_of (table_at schema table) row) new made.state new_fits ready.holds) (λ changed holds.
       bind_ok (run_others schema table own (runs_of schema Fact all) (fields_of schema table) 0 (made_of (unfollow place changed) [])) _ (λ last. Fact last.state.tables) (Holds schema Fact)
       (others_keep schema Fact sound keeps table own false all steps (made_of (unfollow place changed) []) holds) (λ last holds.

@@ -2,7 +2,7 @@
 use Rattle.std.proofs.Common.{◌≡◌, ℕ, ◌+◌, Bool, true, false, not, List, [], ◌∷◌, map, filter, length, zip, Option, Some, None, option_map, option_and_then, slice_get, unwrap_or, is_some, IfSome, Result, Ok, Err, IfOk, refl, sym, ap, ◌∙◌, true≢false}
 use Rattle.std.specs.Prelude.{if◌then◌else◌}
 use Rattle.std.specs.List.{list_all}
-use Rattle.psl_rules.specs.Updates.{In}
+use Rattle.qe_text.specs.Lists.{In}
 use Rattle.qe_base.specs.declared.value.RelId.{RelId}
 use Rattle.qe_base.specs.declared.value.Row.{Row}
 use Rattle.qe_base.specs.declared.value.TableId.{TableId}
@@ -12,40 +12,41 @@ use Rattle.qe_base.specs.declared.schema.Link.{Link}
 use Rattle.qe_base.specs.declared.schema.Relation.{Relation}
 use Rattle.qe_base.specs.declared.answer.Rule.{Rule}
 use Rattle.qe_base.specs.declared.answer.Rule.TheVariants as rule
-use Rattle.qe_schema.specs.Schemas.{Schema, link_of}
+use Rattle.qe_base.specs.Schemas.{Schema, link_of}
 use Rattle.qe_schema.proofs.Members.{passes}
-use Rattle.qe_tables.specs.Columns.{Values, at_columns}
-use Rattle.qe_tables.specs.Tables.{Tables, table_at, id_of}
-use Rattle.qe_reading.specs.Related.{field_at, led_to_by}
-use Rattle.qe_writing.specs.State.{State, Followed, ◌>>=◌, row_with_id, row_of, row_followed, follow_all, or_absent, present}
+use Rattle.qe_schema.specs.Columns.{Values, at_columns}
+use Rattle.qe_schema.specs.Tables.{Tables, table_at, id_of, field_at}
+use Rattle.qe_reading.specs.Related.{led_to_by}
+use Rattle.qe_writing.specs.WriteState.{WriteState, Followed, ◌>>=◌, row_with_id, row_of, row_followed, follow_all, or_absent, present}
 use Rattle.qe_writing.specs.Delete.{nulls, relation_id}
 use Rattle.qe_writing.specs.Ways.{Way, no_relation, relation_at, children_of, refer, let_go, on_row, each_followed, each_row, make_room_for_child, is_row, attach_child, to_children, no_link, link_at, own_side, other_side, link_rows, unlink_row, to_linked}
-use Rattle.qe_writing.specs.WriteFits.{value_fits, handed_columns, is_one_of}
-use Rattle.qe_write_laws.specs.Keeps.{Keeps, row_fits}
-use Rattle.qe_write_laws.specs.Sound.{IsSound}
+use Rattle.qe_writing.specs.Numbers.{is_one_of}
+use Rattle.qe_writing.specs.WriteFits.{value_fits, handed_columns}
+use Rattle.qe_write_laws.specs.Keeps.{Keeps, row_fits, StillHolds}
+use Rattle.qe_schema.specs.Sound.{IsSound}
 use Rattle.qe_write_laws.proofs.Lists.{in_find, firsts}
-use Rattle.qe_write_laws.proofs.Columns.{with_columns_fit, hands_on, counts_right, lets_go}
-use Rattle.qe_write_laws.proofs.Rows.{bind_ok}
+use Rattle.qe_write_laws.proofs.Columns.{with_columns_fit, hands_on, counts_right, lets_go, is_of_parent}
+use Rattle.qe_write_laws.proofs.Results.{bind_ok}
 
 -- ---- rows that are there
 
-by_id_there : (schema : Schema) (table : ℕ) (state : State) (id : Option Values) → IfSome (option_and_then (λ id. row_with_id schema table id state) id) (λ row. In row (state.tables.rows table))
+by_id_there : (schema : Schema) (table : ℕ) (state : WriteState) (id : Option Values) → IfSome (option_and_then (λ id. row_with_id schema table id state) id) (λ row. In row (state.tables.rows table))
 by_id_there schema table state None = tt
 by_id_there schema table state (Some id) = in_find _ (state.tables.rows table)
 
-row_of_there : (schema : Schema) (table : ℕ) (state : State) (one : Option Followed) → IfSome (row_of schema table state one) (λ row. In row (state.tables.rows table))
+row_of_there : (schema : Schema) (table : ℕ) (state : WriteState) (one : Option Followed) → IfSome (row_of schema table state one) (λ row. In row (state.tables.rows table))
 row_of_there schema table state None = tt
 row_of_there schema table state (Some one) = by_id_there schema table state one.id
 
 -- the row that is followed at a place
-pub followed_there : (schema : Schema) (table place : ℕ) (state : State) → IfSome (row_followed schema table place state) (λ row. In row (state.tables.rows table))
+pub followed_there : (schema : Schema) (table place : ℕ) (state : WriteState) → IfSome (row_followed schema table place state) (λ row. In row (state.tables.rows table))
 followed_there schema table place state = row_of_there schema table state (slice_get state.followed place)
 
 pub or_absent_ok : (P : Row → Type 0) (table : ℕ) (row : Option Row) → IfSome row P → IfOk (or_absent table row) P
 or_absent_ok P table None is = tt
 or_absent_ok P table (Some row) is = is
 
-pub present_there : (schema : Schema) (table place : ℕ) (state : State) → IfOk (present schema table place state) (λ row. In row (state.tables.rows table))
+pub present_there : (schema : Schema) (table place : ℕ) (state : WriteState) → IfOk (present schema table place state) (λ row. In row (state.tables.rows table))
 present_there schema table place state = or_absent_ok (λ row. In row (state.tables.rows table)) table (row_followed schema table place state) (followed_there schema table place state)
 
 -- values that are given for a row of a table, for all of these columns
@@ -59,49 +60,46 @@ nothing_given schema table columns none = record { fit = refl; enough = λ colum
 -- ---- the changes
 
 module _ (schema : Schema) (Fact : Tables → Type 0) where
-  abbrev pub Holds : State → Type 0
+  abbrev pub Holds : WriteState → Type 0
   Holds state = Fact state.tables
 
-  abbrev pub Kept : Result State Rule → Type 0
-  Kept result = IfOk result (λ after. Fact after.tables)
-
-  pub then_keeps : (r : Result State Rule) (f : State → Result State Rule) → Kept r → ((state : State) → Holds state → Kept (f state)) → Kept (r >>= f)
+  pub then_keeps : (r : Result WriteState Rule) (f : WriteState → Result WriteState Rule) → StillHolds Fact r → ((state : WriteState) → Holds state → StillHolds Fact (f state)) → StillHolds Fact (r >>= f)
   then_keeps r f = bind_ok r f Holds Holds
 
   -- a step with each row that is there
-  abbrev pub RowStep : ℕ → (Row → State → Result State Rule) → Type 0
-  RowStep table step = (row : Row) (state : State) → Holds state → In row (state.tables.rows table) → Kept (step row state)
+  abbrev pub RowStep : ℕ → (Row → WriteState → Result WriteState Rule) → Type 0
+  RowStep table step = (row : Row) (state : WriteState) → Holds state → In row (state.tables.rows table) → StillHolds Fact (step row state)
 
   -- what a way keeps, of rows of its field's table
   pub record WayKeeps (way : Way) (table field : ℕ) : Type 0 where
     pub leads : led_to_by schema (field_at schema table field) ≡ Some way.other
-    pub attach : (own place : ℕ) (state : State) → Holds state → Kept (way.attach own place state)
-    pub make_room : (stays : Row → Bool) (own : ℕ) (state : State) → Holds state → Kept (way.make_room stays own state)
+    pub attach : (own place : ℕ) (state : WriteState) → Holds state → StillHolds Fact (way.attach own place state)
+    pub make_room : (stays : Row → Bool) (own : ℕ) (state : WriteState) → Holds state → StillHolds Fact (way.make_room stays own state)
     pub detach : (own : ℕ) → RowStep way.other (way.detach own)
     pub given : (parent : Row) → row_fits schema table parent ≡ true → GivenFit schema way.other (handed_columns schema (field_at schema table field)) (way.given parent)
-    pub settle : (own place : ℕ) (state : State) → Holds state → Kept (way.settle own place state)
+    pub settle : (own place : ℕ) (state : WriteState) → Holds state → StillHolds Fact (way.settle own place state)
 
-  on_row_keeps : (table : ℕ) (step : Row → State → Result State Rule) → RowStep table step → (row : Option Row) (state : State) → Holds state → IfSome row (λ row. In row (state.tables.rows table)) → Kept (on_row step row state)
+  on_row_keeps : (table : ℕ) (step : Row → WriteState → Result WriteState Rule) → RowStep table step → (row : Option Row) (state : WriteState) → Holds state → IfSome row (λ row. In row (state.tables.rows table)) → StillHolds Fact (on_row step row state)
   on_row_keeps table step each None state holds there = holds
   on_row_keeps table step each (Some row) state holds there = each row state holds there
 
-  each_followed_keeps : (table : ℕ) (step : Row → State → Result State Rule) → RowStep table step → (rows : List Row) (place : ℕ) (state : State) → Holds state → Kept (each_followed schema table step rows place state)
+  each_followed_keeps : (table : ℕ) (step : Row → WriteState → Result WriteState Rule) → RowStep table step → (rows : List Row) (place : ℕ) (state : WriteState) → Holds state → StillHolds Fact (each_followed schema table step rows place state)
   each_followed_keeps table step each [] place state holds = holds
   each_followed_keeps table step each (row ∷ rows) place state holds =
       then_keeps (on_row step (row_followed schema table place state) state) _ (on_row_keeps table step each (row_followed schema table place state) state holds (followed_there schema table place state)) (each_followed_keeps table step each rows (place + 1))
 
-  pub each_row_keeps : (table : ℕ) (step : Row → State → Result State Rule) → RowStep table step → (rows : List Row) (state : State) → Holds state → Kept (each_row schema table step rows state)
+  pub each_row_keeps : (table : ℕ) (step : Row → WriteState → Result WriteState Rule) → RowStep table step → (rows : List Row) (state : WriteState) → Holds state → StillHolds Fact (each_row schema table step rows state)
   each_row_keeps table step each rows state holds =
       then_keeps (each_followed schema table step rows (length state.followed) (follow_all schema table rows state)) _ (each_followed_keeps table step each rows (length state.followed) (follow_all schema table rows state) holds) (λ after holds. holds)
 
   module _ (sound : IsSound schema) (keeps : Keeps schema Fact) where
-    pub fits_there : (table : ℕ) (state : State) (row : Row) → Holds state → In row (state.tables.rows table) → row_fits schema table row ≡ true
+    pub fits_there : (table : ℕ) (state : WriteState) (row : Row) → Holds state → In row (state.tables.rows table) → row_fits schema table row ≡ true
     fits_there table state row holds there = passes (row_fits schema table) (state.tables.rows table) row (keeps.rows state.tables holds table) there
 
     -- ---- references
 
-    pub refer_keeps : (number : ℕ) (values : Values) (child : Row) (state : State) → Holds state → In child (state.tables.rows (relation_at schema number).child.0) → list_all (value_fits schema (relation_at schema number).child.0) (zip (relation_at schema number).child_columns values) ≡ true
-        → Kept (refer schema (relation_at schema number) values child state)
+    pub refer_keeps : (number : ℕ) (values : Values) (child : Row) (state : WriteState) → Holds state → In child (state.tables.rows (relation_at schema number).child.0) → list_all (value_fits schema (relation_at schema number).child.0) (zip (relation_at schema number).child_columns values) ≡ true
+        → StillHolds Fact (refer schema (relation_at schema number) values child state)
     refer_keeps number values child state holds there fit =
         let relation : Relation = relation_at schema number in
         keeps.change relation.child.0 (id_of (table_at schema relation.child.0) child) _ state (with_columns_fit schema relation.child.0 relation.child_columns values child (fits_there relation.child.0 state child holds there) fit) holds
@@ -109,20 +107,20 @@ module _ (schema : Schema) (Fact : Tables → Type 0) where
     let_go_keeps : (number : ℕ) → RowStep (relation_at schema number).child.0 (let_go schema number)
     let_go_keeps number child state holds there = by_optional (relation_at schema number).optional refl
       where
-        by_optional : (b : Bool) → (relation_at schema number).optional ≡ b → Kept (if b then refer schema (relation_at schema number) (nulls (relation_at schema number).child_columns) child state else Err (rule.Required (relation_id number)))
+        by_optional : (b : Bool) → (relation_at schema number).optional ≡ b → StillHolds Fact (if b then refer schema (relation_at schema number) (nulls (relation_at schema number).child_columns) child state else Err (rule.Required (relation_id number)))
         by_optional true is = refer_keeps number (nulls (relation_at schema number).child_columns) child state holds there (lets_go schema sound number is)
         by_optional false is = tt
 
-    make_room_keeps : (number : ℕ) (stays : Row → Bool) (own : ℕ) (state : State) → Holds state → Kept (make_room_for_child schema number stays own state)
+    make_room_keeps : (number : ℕ) (stays : Row → Bool) (own : ℕ) (state : WriteState) → Holds state → StillHolds Fact (make_room_for_child schema number stays own state)
     make_room_keeps number stays own state holds = by_many (relation_at schema number).many
       where
-        by_many : (b : Bool) → Kept (if b then Ok state else (present schema (relation_at schema number).parent.0 own state >>= λ parent. each_row schema (relation_at schema number).child.0 (let_go schema number) (filter (λ child. not (stays child)) (children_of (relation_at schema number) parent state)) state))
+        by_many : (b : Bool) → StillHolds Fact (if b then Ok state else (present schema (relation_at schema number).parent.0 own state >>= λ parent. each_row schema (relation_at schema number).child.0 (let_go schema number) (filter (λ child. not (stays child)) (children_of (relation_at schema number) parent state)) state))
         by_many true = holds
         by_many false =
             bind_ok (present schema (relation_at schema number).parent.0 own state) _ (λ parent. In parent (state.tables.rows (relation_at schema number).parent.0)) Holds (present_there schema (relation_at schema number).parent.0 own state)
             (λ parent there. each_row_keeps (relation_at schema number).child.0 (let_go schema number) (let_go_keeps number) (filter (λ child. not (stays child)) (children_of (relation_at schema number) parent state)) state holds)
 
-    attach_child_keeps : (number own place : ℕ) (state : State) → Holds state → Kept (attach_child schema number own place state)
+    attach_child_keeps : (number own place : ℕ) (state : WriteState) → Holds state → StillHolds Fact (attach_child schema number own place state)
     attach_child_keeps number own place state holds =
         let relation : Relation = relation_at schema number in
         bind_ok (present schema relation.parent.0 own state) _ (λ parent. In parent (state.tables.rows relation.parent.0)) Holds (present_there schema relation.parent.0 own state) (λ parent there.
@@ -149,19 +147,19 @@ module _ (schema : Schema) (Fact : Tables → Type 0) where
       attach = attach_child_keeps relation.0;
       make_room = make_room_keeps relation.0;
       detach = λ own. let_go_keeps relation.0;
-      given = λ parent fits. children_given relation.0 parent (ap (λ t. row_fits schema t parent) (sound.targets table field relation at) ∙ fits) (handed_columns schema (field_at schema table field)) (ap (handed_columns schema) at);
+      given = λ parent fits. children_given relation.0 parent (ap (λ t. row_fits schema t parent) (is_of_parent schema sound table field relation at) ∙ fits) (handed_columns schema (field_at schema table field)) (ap (handed_columns schema) at);
       settle = λ own place state holds. holds;
     }
 
     -- ---- links
 
-    link_a_keeps : (link own place : ℕ) → is_some (link_of link schema.links) ≡ true → (state : State) → Holds state → Kept (link_rows schema link true own place state)
+    link_a_keeps : (link own place : ℕ) → is_some (link_of link schema.links) ≡ true → (state : WriteState) → Holds state → StillHolds Fact (link_rows schema link true own place state)
     link_a_keeps link own place is state holds =
         bind_ok (present schema (link_at schema link).a.0 own state) _ (λ row. In row (state.tables.rows (link_at schema link).a.0)) Holds (present_there schema (link_at schema link).a.0 own state) (λ row its.
         bind_ok (present schema (link_at schema link).b.0 place state) _ (λ other. In other (state.tables.rows (link_at schema link).b.0)) Holds (present_there schema (link_at schema link).b.0 place state) (λ other there.
         keeps.link link row other state.tables is its there holds))
 
-    link_b_keeps : (link own place : ℕ) → is_some (link_of link schema.links) ≡ true → (state : State) → Holds state → Kept (link_rows schema link false own place state)
+    link_b_keeps : (link own place : ℕ) → is_some (link_of link schema.links) ≡ true → (state : WriteState) → Holds state → StillHolds Fact (link_rows schema link false own place state)
     link_b_keeps link own place is state holds =
         bind_ok (present schema (link_at schema link).b.0 own state) _ (λ row. In row (state.tables.rows (link_at schema link).b.0)) Holds (present_there schema (link_at schema link).b.0 own state) (λ row its.
         bind_ok (present schema (link_at schema link).a.0 place state) _ (λ other. In other (state.tables.rows (link_at schema link).a.0)) Holds (present_there schema (link_at schema link).a.0 place state) (λ other there.

@@ -9,8 +9,8 @@ use Rattle.qe_base.specs.declared.write.Step.TheViews.{roll-Step}
 use Rattle.qe_base.specs.declared.write.Step.TheOpen as step
 use Rattle.qe_base.specs.declared.write.Step.TheOpen.{Step-F, Create-F, Nested-F, Update-F}
 use Rattle.qe_base.specs.declared.write.Step.TheFolds.{ind-Create, ind-Update, map-Step, map-Create, map-Nested, map-Update}
-use Rattle.qe_schema.specs.Schemas.{Schema}
-use Rattle.qe_tables.specs.Tables.{Tables}
+use Rattle.qe_base.specs.Schemas.{Schema}
+use Rattle.qe_schema.specs.Tables.{Tables}
 use Rattle.qe_writing.specs.Write as writing
 use Rattle.qe_writing.specs.Write.{Run, Creates, FieldRuns, Updates, StepParts, create_of, update_of}
 use Rattle.qe_writing.specs.WriteFits as fitting
@@ -18,7 +18,7 @@ use Rattle.qe_writing.specs.WriteFits.{FittingStep, FittingCreate, FittingSteps,
 use Rattle.qe_writing.proofs.Layers.{nested_of, step_of, create_roll, update_roll, nested_roll, step_roll}
 use Rattle.qe_writing.proofs.FitLayers.{nested_fits, step_fits, create_fits_roll, update_fits_roll, nested_fits_roll, step_fits_roll}
 use Rattle.qe_write_laws.specs.Keeps.{Keeps}
-use Rattle.qe_write_laws.specs.Sound.{IsSound}
+use Rattle.qe_schema.specs.Sound.{IsSound}
 use Rattle.qe_write_laws.proofs.Lists.{map_both}
 use Rattle.qe_write_laws.proofs.Steps.{CreatesKeep, UpdatesKeep, StepKeeps, FieldKeeps, KeptCreate, KeptUpdate, KeptStep, KeptSteps, KeptParts, runs_in, fits_in}
 use Rattle.qe_write_laws.proofs.Holders.{step_keeps}

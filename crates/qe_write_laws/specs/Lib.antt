@@ -1,5 +1,6 @@
+pub mod ChangeLaws
+pub mod Keeping
 pub mod Keeps
-pub mod Reads
-pub mod Sound
+pub mod OnlyReads
 pub mod Unique
-pub mod Writes
+pub mod WriteLaws

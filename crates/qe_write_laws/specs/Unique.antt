@@ -5,10 +5,10 @@ use Rattle.qe_base.specs.declared.answer.Outside.{Outside}
 use Rattle.qe_base.specs.declared.schema.Key.{Key}
 use Rattle.qe_base.specs.declared.value.Row.{Row}
 use Rattle.qe_base.specs.declared.write.Op.{Op}
-use Rattle.qe_schema.specs.Schemas.{Schema}
-use Rattle.qe_tables.specs.Columns.{at_columns, holds}
-use Rattle.qe_tables.specs.Fits.{FitsSchema}
-use Rattle.qe_tables.specs.Tables.{Tables, table_at}
+use Rattle.qe_base.specs.Schemas.{Schema}
+use Rattle.qe_schema.specs.Columns.{at_columns, holds}
+use Rattle.qe_schema.specs.Fits.{FitsSchema}
+use Rattle.qe_schema.specs.Tables.{Tables, table_at}
 use Rattle.qe_writing.specs.Batch.{plain_all}
 use Rattle.qe_writing.specs.Plain.{plain}
 use Rattle.qe_writing.specs.WriteFits.{op_fits}

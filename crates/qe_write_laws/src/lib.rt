@@ -1,62 +1,13 @@
-//! Laws of plain operations and of nested writes.
+//! Laws of changes, nested writes, operations and batches.
 #![tactic(auto)]
 
-ghost use Rattle.std.specs.Prelude.{◌≡◌, Bool, List, true, Err};
-ghost use Rattle.std.specs.List.{list_all};
-ghost use Rattle.qe_base.specs.declared.answer.Outside.{Outside};
-ghost use Rattle.qe_base.specs.declared.answer.Rule.{Rule};
-ghost use Rattle.qe_base.specs.declared.write.Op.{Op};
-ghost use Rattle.qe_schema.specs.SchemaOf.{IsSchema};
-ghost use Rattle.qe_schema.specs.Schemas.{Schema};
-ghost use Rattle.qe_tables.specs.Fits.{FitsSchema};
-ghost use Rattle.qe_tables.specs.Tables.{Tables};
-ghost use Rattle.qe_writing.specs.Batch.{Refusal, plain_all};
-ghost use Rattle.qe_writing.specs.Plain.{plain};
-ghost use Rattle.qe_write_laws.specs.Keeps.{Keeps};
-ghost use Rattle.qe_write_laws.specs.Reads.{only_reads};
-ghost use Rattle.qe_write_laws.specs.Sound.{IsSound};
-ghost use Rattle.qe_write_laws.specs.Unique.{OperationsRepeatNoKey, BatchesRepeatNoKey};
-ghost use Rattle.qe_write_laws.specs.Writes.{CreatesKeep, UpdatesKeep, OperationsKeep, BatchesKeep, FitAndPass};
+mod changing;
+mod writing;
 
-/// Where an operation or a batch is refused, the tables are as before.
-#[tactic(auto, using(crate::proofs::Refusals::refused_leaves, crate::proofs::Refusals::batch_refused_leaves))]
-pub fn refusals_leave_tables()
-    ensures operation { (schema : Schema) (op : Op) (outside : Outside) (tables : Tables) (broken : Rule) → (plain schema op outside tables).answer ≡ Err broken → (plain schema op outside tables).tables ≡ tables }
-    ensures batch { (schema : Schema) (ops : List Op) (outside : Outside) (tables : Tables) (refusal : Refusal) → (plain_all schema ops outside tables).answers ≡ Err refusal → (plain_all schema ops outside tables).tables ≡ tables }
-{}
-
-/// Where only is read, the tables are as before.
-#[tactic(auto, using(crate::proofs::Refusals::read_leaves, crate::proofs::Refusals::batch_read_leaves))]
-pub fn reads_leave_tables()
-    ensures operation { (schema : Schema) (op : Op) (outside : Outside) (tables : Tables) → only_reads op ≡ true → (plain schema op outside tables).tables ≡ tables }
-    ensures batch { (schema : Schema) (ops : List Op) (outside : Outside) (tables : Tables) → list_all only_reads ops ≡ true → (plain_all schema ops outside tables).tables ≡ tables }
-{}
-
-/// In an accepted schema fills suit their columns, fields lead where their relations say, and references
-/// agree with required columns.
-#[tactic(auto, using(crate::proofs::Sound::is_sound))]
-pub fn schemas_are_sound()
-    ensures sound { (schema : Schema) → IsSchema schema → IsSound schema }
-{}
-
-/// Tables that fit an accepted schema fit it after every write, operation and batch that fits the schema.
-#[tactic(auto, using(crate::proofs::Fitting::creates_keep, crate::proofs::Fitting::updates_keep, crate::proofs::Fitting::operations_keep, crate::proofs::Fitting::batches_keep))]
-pub fn operations_keep_tables_fitting()
-    ensures create { (schema : Schema) → IsSchema schema → CreatesKeep schema (FitsSchema schema) }
-    ensures update { (schema : Schema) → IsSchema schema → UpdatesKeep schema (FitsSchema schema) }
-    ensures operation { (schema : Schema) → IsSchema schema → OperationsKeep schema (FitsSchema schema) }
-    ensures batch { (schema : Schema) → IsSchema schema → BatchesKeep schema (FitsSchema schema) }
-{}
-
-/// Over tables that fit an accepted schema, no operation or batch that fits it lets two rows of a table agree
-/// on a key.
-pub fn no_key_stands_twice()
-    ensures operation { (schema : Schema) → IsSchema schema → OperationsRepeatNoKey schema }
-    ensures batch { (schema : Schema) → IsSchema schema → BatchesRepeatNoKey schema }
-{}
-
-/// The same of any test of tables besides: what each single change keeps, operations and batches keep.
-pub fn writes_keep_any_test()
-    ensures operation { (schema : Schema) → IsSchema schema → (test : Tables → Bool) → Keeps schema (FitAndPass schema test) → OperationsKeep schema (FitAndPass schema test) }
-    ensures batch { (schema : Schema) → IsSchema schema → (test : Tables → Bool) → Keeps schema (FitAndPass schema test) → BatchesKeep schema (FitAndPass schema test) }
-{}
+pub use changing::{
+    changes_are_their_steps, changes_keep_the_tables_fit, changes_keep_what_replacements_keep,
+};
+pub use writing::{
+    no_key_stands_twice, operations_keep_tables_fitting, reads_leave_tables, refusals_leave_tables,
+    writes_keep_any_test,
+};

@@ -8,7 +8,7 @@ use Rattle.qe_base.specs.declared.write.Step.{Step}
 use Rattle.qe_base.specs.declared.write.Step.TheViews.{roll-Step}
 use Rattle.qe_base.specs.declared.write.Step.TheOpen.{Step-F, Create-F, Nested-F, Update-F}
 use Rattle.qe_base.specs.declared.write.Step.TheFolds.{fold-Step, fold-Nested, fold-roll-Step, fold-roll-Create, fold-roll-Nested, fold-roll-Update, map-Step}
-use Rattle.qe_schema.specs.Schemas.{Schema}
+use Rattle.qe_base.specs.Schemas.{Schema}
 use Rattle.qe_writing.specs.Write.{Run, Creates, FieldRuns, Updates, step_step, create_step, nested_step, update_step, create_of, update_of}
 
 abbrev pub nested_of : Schema → Outside → Nested → FieldRuns

@@ -1,17 +1,14 @@
 -- What fits is on a model.
-use Rattle.std.proofs.Common.{◌≡◌, ℕ, Bool, true, false, not, ◌||◌, List, [], map, Option, Some, None, slice_get, sym, ap, ◌∙◌}
+use Rattle.std.proofs.Common.{◌≡◌, ℕ, Bool, true, false, ◌||◌, List, [], map, sym, ap, ◌∙◌}
 use Rattle.std.proofs.lemmas.Bool.{and_parts}
-use Rattle.qe_base.specs.declared.schema.Table.{Table}
 use Rattle.qe_base.specs.declared.write.Create.{Create, out-Create}
 use Rattle.qe_base.specs.declared.write.Update.{Update, out-Update}
 use Rattle.qe_base.specs.declared.write.Op.{Op}
 use Rattle.qe_base.specs.declared.write.Op.TheVariants as op
 use Rattle.qe_base.specs.declared.write.Step.TheFolds.{fold_out-Create, fold_out-Update}
-use Rattle.qe_schema.specs.Schemas.{Schema}
-use Rattle.qe_tables.specs.Tables.{is_model, is_model_table}
-use Rattle.qe_reading.specs.Fits as reading
+use Rattle.qe_base.specs.Schemas.{Schema}
+use Rattle.qe_schema.specs.Tables.{is_model}
 use Rattle.qe_reading.specs.Fits.{read_fits}
-use Rattle.qe_reading.specs.Related.{is_some_such}
 use Rattle.qe_writing.specs.Parts.{is_few}
 use Rattle.qe_writing.specs.WriteFits.{FittingStep, FittingCreate, FittingSteps, FittingUpdate, step_step, create_step, nested_step, update_step, create_fits, update_fits, write_fits, op_fits, op_table}
 use Rattle.qe_writing.proofs.FitLayers.{nested_fits}
@@ -32,22 +29,15 @@ pub updated_model : (schema : Schema) (update : Update) (table : ℕ) → (updat
 updated_model schema update table fits =
     (and_parts (is_model schema table) _ (and_parts _ _ (and_parts _ _ (sym (ap (λ (fit : FittingUpdate). fit.fits table) (update_fits_out schema update)) ∙ fits)).0).0).0
 
-same_model : (schema : Schema) (table : ℕ) → reading.is_model schema table ≡ true → is_model schema table ≡ true
-same_model schema table is = by_table (slice_get schema.tables table) is
-  where
-    by_table : (o : Option Table) → is_some_such (λ (found : Table). not found.link) o ≡ true → is_model_table o ≡ true
-    by_table None is = is
-    by_table (Some found) is = is
-
 or_false : (b : Bool) → (b || false) ≡ true → b ≡ true
 or_false true is = is
 or_false false is = is
 
 pub operation_model : (schema : Schema) (op : Op) → op_fits schema op ≡ true → is_model schema (op_table op) ≡ true
-operation_model schema (op.FindUnique table at strict pick) fits = same_model schema table.0 (and_parts (reading.is_model schema table.0) _ (and_parts _ _ (or_false (read_fits schema (op.FindUnique table at strict pick)) (and_parts (read_fits schema (op.FindUnique table at strict pick) || false) (is_few 0) fits).0)).0).0
-operation_model schema (op.FindFirst table look strict pick) fits = same_model schema table.0 (and_parts (reading.is_model schema table.0) _ (and_parts _ _ (or_false (read_fits schema (op.FindFirst table look strict pick)) (and_parts (read_fits schema (op.FindFirst table look strict pick) || false) (is_few 0) fits).0)).0).0
-operation_model schema (op.FindMany table look pick) fits = same_model schema table.0 (and_parts (reading.is_model schema table.0) _ (and_parts _ _ (or_false (read_fits schema (op.FindMany table look pick)) (and_parts (read_fits schema (op.FindMany table look pick) || false) (is_few 0) fits).0)).0).0
-operation_model schema (op.Count table look) fits = same_model schema table.0 (and_parts (reading.is_model schema table.0) _ (and_parts _ _ (or_false (read_fits schema (op.Count table look)) (and_parts (read_fits schema (op.Count table look) || false) (is_few 0) fits).0)).0).0
+operation_model schema (op.FindUnique table at strict pick) fits = (and_parts (is_model schema table.0) _ (and_parts _ _ (or_false (read_fits schema (op.FindUnique table at strict pick)) (and_parts (read_fits schema (op.FindUnique table at strict pick) || false) (is_few 0) fits).0)).0).0
+operation_model schema (op.FindFirst table look strict pick) fits = (and_parts (is_model schema table.0) _ (and_parts _ _ (or_false (read_fits schema (op.FindFirst table look strict pick)) (and_parts (read_fits schema (op.FindFirst table look strict pick) || false) (is_few 0) fits).0)).0).0
+operation_model schema (op.FindMany table look pick) fits = (and_parts (is_model schema table.0) _ (and_parts _ _ (or_false (read_fits schema (op.FindMany table look pick)) (and_parts (read_fits schema (op.FindMany table look pick) || false) (is_few 0) fits).0)).0).0
+operation_model schema (op.Count table look) fits = (and_parts (is_model schema table.0) _ (and_parts _ _ (or_false (read_fits schema (op.Count table look)) (and_parts (read_fits schema (op.Count table look) || false) (is_few 0) fits).0)).0).0
 operation_model schema (op.Create table tree pick) fits = created_model schema tree table.0 [] (and_parts ((create_fits schema tree).fits table.0 []) _ (and_parts (write_fits schema (op.Create table tree pick)) _ fits).0).0
 operation_model schema (op.CreateMany table trees pick) fits = (and_parts (is_model schema table.0) _ (and_parts _ _ (and_parts (write_fits schema (op.CreateMany table trees pick)) _ fits).0).0).0
 operation_model schema (op.Update table at tree pick) fits = updated_model schema tree table.0 (and_parts _ ((update_fits schema tree).fits table.0) (and_parts _ _ (and_parts (write_fits schema (op.Update table at tree pick)) _ fits).0).0).1

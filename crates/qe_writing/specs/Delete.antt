@@ -11,10 +11,10 @@ use Rattle.qe_base.specs.declared.schema.Link.{Link}
 use Rattle.qe_base.specs.declared.schema.Relation.{Relation}
 use Rattle.qe_base.specs.declared.answer.Rule.{Rule}
 use Rattle.qe_base.specs.declared.answer.Rule.TheVariants as rule
-use Rattle.qe_schema.specs.Schemas.{Schema, link_of}
-use Rattle.qe_tables.specs.Columns.{Values, are_same}
-use Rattle.qe_tables.specs.Tables.{Tables, table_at, id_of}
-use Rattle.qe_writing.specs.State.{State, lost}
+use Rattle.qe_base.specs.Schemas.{Schema, link_of}
+use Rattle.qe_schema.specs.Columns.{Values, are_same}
+use Rattle.qe_schema.specs.Tables.{Tables, table_at, id_of}
+use Rattle.qe_writing.specs.WriteState.{WriteState, lost}
 use Rattle.qe_writing.specs.Doomed.{Place, place_of, refers, same_place, places, doomed_by}
 use Rattle.qe_writing.specs.Given.{with_columns}
 
@@ -82,13 +82,13 @@ without schema doomed tables = record {
 abbrev pub relation_id : ℕ → RelId
 relation_id number = record { 0 = number }
 
-abbrev pub delete_unless : Schema → List Place → Option ℕ → State → Result State Rule
+abbrev pub delete_unless : Schema → List Place → Option ℕ → WriteState → Result WriteState Rule
 delete_unless schema doomed (Some relation) state = Err (rule.Required (relation_id relation))
 delete_unless schema doomed None state = Ok (record { tables = without schema doomed state.tables; followed = map (lost (is_doomed_id schema doomed)) state.followed; drawn = state.drawn })
 
-abbrev pub delete_doomed : Schema → List Place → State → Result State Rule
+abbrev pub delete_doomed : Schema → List Place → WriteState → Result WriteState Rule
 delete_doomed schema doomed state = delete_unless schema doomed (kept_by schema.relations doomed (places schema state.tables)) state
 
 -- the given rows and what their deletes cascade to go, unless a row that stays keeps one of them
-abbrev pub delete_of : Schema → List Place → State → Result State Rule
+abbrev pub delete_of : Schema → List Place → WriteState → Result WriteState Rule
 delete_of schema given state = delete_doomed schema (doomed_by schema state.tables given) state

@@ -1,14 +1,14 @@
 -- The rows that a delete takes away: the given ones, and those that a cascade leads to.
-use Rattle.std.specs.Prelude.{◌≡◌, ◌<◌, ℕ, zero, suc, Bool, true, false, ◌&&◌, ◌||◌, List, [], map, filter, length, ◌==◌}
+use Rattle.std.specs.Prelude.{◌≡◌, ◌<◌, ℕ, zero, suc, Bool, true, ◌&&◌, ◌||◌, List, [], map, filter, length, ◌==◌}
 use Rattle.std.specs.List.{list_any, flat_map, range_with_len}
-use Rattle.psl_rules.specs.Updates.{In}
+use Rattle.qe_text.specs.Lists.{In}
 use Rattle.qe_base.specs.declared.value.Row.{Row}
-use Rattle.qe_base.specs.declared.schema.Action.{Action}
-use Rattle.qe_base.specs.declared.schema.Action.TheVariants.{Cascade, Restrict, SetNull}
+use Rattle.qe_base.specs.declared.schema.Action.TheVariants.{Cascade}
 use Rattle.qe_base.specs.declared.schema.Relation.{Relation}
-use Rattle.qe_schema.specs.Schemas.{Schema}
-use Rattle.qe_tables.specs.Columns.{at_columns, are_same, holds}
-use Rattle.qe_tables.specs.Tables.{Tables}
+use Rattle.qe_base.specs.Schemas.{Schema}
+use Rattle.qe_schema.specs.Cycles.{is_cascade}
+use Rattle.qe_schema.specs.Columns.{at_columns, are_same, holds}
+use Rattle.qe_schema.specs.Tables.{Tables}
 
 -- a row of a table
 pub record Place : Type 0 where
@@ -36,11 +36,6 @@ pub record AreDoomed (schema : Schema) (tables : Tables) (given doomed : List Pl
   pub only : (place : Place) → In place doomed → Doomed schema tables given place
 
 -- ---- the same by computing
-
-abbrev pub is_cascade : Action → Bool
-is_cascade Cascade = true
-is_cascade Restrict = false
-is_cascade SetNull = false
 
 abbrev pub same_place : Place → Place → Bool
 same_place one other = one.table == other.table && are_same one.row.values other.row.values

@@ -18,10 +18,10 @@ use Rattle.qe_base.specs.declared.answer.Rule.{Rule}
 use Rattle.qe_base.specs.declared.answer.Rule.TheVariants as rule
 use Rattle.qe_base.specs.declared.answer.Why.{Why}
 use Rattle.qe_base.specs.declared.answer.Why.TheVariants as why
-use Rattle.qe_schema.specs.Schemas.{Schema}
-use Rattle.qe_tables.specs.Fits.{has_number}
-use Rattle.qe_tables.specs.Tables.{Tables, table_at}
-use Rattle.qe_writing.specs.State.{◌>>=◌, table_id}
+use Rattle.qe_base.specs.Schemas.{Schema}
+use Rattle.qe_schema.specs.Fits.{has_number}
+use Rattle.qe_schema.specs.Tables.{Tables, table_at}
+use Rattle.qe_writing.specs.WriteState.{◌>>=◌, table_id}
 
 -- the identifier of this number: the seed plus the number modulo 2^128, with the version 4 and the variant
 -- of RFC 9562 in their bits, as text

@@ -1,7 +1,7 @@
 -- Values put into columns of a row.
 use Rattle.std.specs.Prelude.{ℕ, List, [], ◌∷◌, slice_set}
 use Rattle.qe_base.specs.declared.value.Row.{Row}
-use Rattle.qe_tables.specs.Columns.{Values}
+use Rattle.qe_schema.specs.Columns.{Values}
 
 abbrev pub with_values : List ℕ → Values → Values → Values
 with_values [] given values = values

@@ -6,11 +6,16 @@ pub mod Edits
 pub mod Fill
 pub mod Finding
 pub mod FitSamples
+pub mod Foot
 pub mod Given
+pub mod Held
+pub mod Numbers
 pub mod Parts
 pub mod Plain
 pub mod Samples
-pub mod State
+pub mod Sees
+pub mod Touched
 pub mod Ways
 pub mod Write
 pub mod WriteFits
+pub mod WriteState

@@ -11,12 +11,12 @@ use Rattle.qe_base.specs.declared.answer.Answer.{Answer}
 use Rattle.qe_base.specs.declared.answer.Answer as answer
 use Rattle.qe_base.specs.declared.answer.Outside.{Outside}
 use Rattle.qe_base.specs.declared.answer.Rule.{Rule}
-use Rattle.qe_schema.specs.Schemas.{Schema}
-use Rattle.qe_tables.specs.Columns.{Values}
-use Rattle.qe_tables.specs.Tables.{Tables, table_at, id_of, row_at}
-use Rattle.qe_reading.specs.Read.{found_at, read_of}
+use Rattle.qe_base.specs.Schemas.{Schema}
+use Rattle.qe_schema.specs.Columns.{Values}
+use Rattle.qe_schema.specs.Tables.{Tables, table_at, id_of, row_at}
+use Rattle.qe_reading.specs.Read.{found_at, find_unique, find_first, find_many, count}
 use Rattle.qe_reading.specs.Shape.{shape_of, all_shown}
-use Rattle.qe_writing.specs.State.{◌>>=◌, or_absent}
+use Rattle.qe_writing.specs.WriteState.{◌>>=◌, or_absent}
 use Rattle.qe_writing.specs.Doomed.{place_of}
 use Rattle.qe_writing.specs.Delete.{delete_of}
 use Rattle.qe_writing.specs.Finding.{passing}
@@ -31,7 +31,7 @@ abbrev pub changed : Answer → Tables → Changed
 changed answer tables = record { answer = answer; tables = tables }
 
 abbrev pub count_answer : ℕ → Answer
-count_answer count = answer.Object ((codes "count", answer.Number count) ∷ [])
+count_answer number = answer.Object ((codes "count", answer.Number number) ∷ [])
 
 -- the row of this id as an answer over the tables
 abbrev pub shown : Schema → ℕ → Pick → Values → Tables → Result Answer Rule
@@ -110,20 +110,6 @@ delete_many schema table matching tables = do
 
 -- ---- the operation
 
--- what an operation that writes answers and makes of the tables; one that only reads makes nothing of them
-abbrev pub write_by : Schema → Op → Outside → Tables → Result Changed Rule
-write_by schema (op.FindUnique table at strict pick) outside tables = Ok (changed answer.Null tables)
-write_by schema (op.FindFirst table look strict pick) outside tables = Ok (changed answer.Null tables)
-write_by schema (op.FindMany table look pick) outside tables = Ok (changed answer.Null tables)
-write_by schema (op.Count table look) outside tables = Ok (changed answer.Null tables)
-write_by schema (op.Create table tree pick) outside tables = create_one schema outside table.0 tree pick tables
-write_by schema (op.CreateMany table trees pick) outside tables = create_many schema outside table.0 trees pick tables
-write_by schema (op.Update table at tree pick) outside tables = or_absent table.0 (found_at schema tables table.0 at) >>= λ row. update_one schema outside table.0 tree pick row tables
-write_by schema (op.UpdateMany table matching tree) outside tables = update_many schema outside table.0 matching tree tables
-write_by schema (op.Upsert table at create update pick) outside tables = update_or_create schema outside table.0 create update pick (found_at schema tables table.0 at) tables
-write_by schema (op.Delete table at pick) outside tables = or_absent table.0 (found_at schema tables table.0 at) >>= λ row. delete_one schema table.0 pick row tables
-write_by schema (op.DeleteMany table matching) outside tables = delete_many schema table.0 matching tables
-
 -- an answer or the rule that is broken, and the tables after it
 pub record Done : Type 0 where
   pub answer : Result Answer Rule
@@ -134,9 +120,19 @@ abbrev pub done : Tables → Result Changed Rule → Done
 done before (Ok after) = record { answer = Ok after.answer; tables = after.tables }
 done before (Err broken) = record { answer = Err broken; tables = before }
 
-abbrev pub read_or_done : Tables → Result Changed Rule → Option (Result Answer Rule) → Done
-read_or_done tables written None = done tables written
-read_or_done tables written (Some read) = record { answer = read; tables = tables }
+-- reading leaves the tables as they are
+abbrev pub only_read : Tables → Result Answer Rule → Done
+only_read tables answer = record { answer = answer; tables = tables }
 
 abbrev pub plain : Schema → Op → Outside → Tables → Done
-plain schema op outside tables = read_or_done tables (write_by schema op outside tables) (read_of schema tables op)
+plain schema (op.FindUnique table at strict pick) outside tables = only_read tables (find_unique schema tables table.0 at strict pick)
+plain schema (op.FindFirst table look strict pick) outside tables = only_read tables (find_first schema tables table.0 look strict pick)
+plain schema (op.FindMany table look pick) outside tables = only_read tables (find_many schema tables table.0 look pick)
+plain schema (op.Count table look) outside tables = only_read tables (count schema tables table.0 look)
+plain schema (op.Create table tree pick) outside tables = done tables (create_one schema outside table.0 tree pick tables)
+plain schema (op.CreateMany table trees pick) outside tables = done tables (create_many schema outside table.0 trees pick tables)
+plain schema (op.Update table at tree pick) outside tables = done tables (or_absent table.0 (found_at schema tables table.0 at) >>= λ row. update_one schema outside table.0 tree pick row tables)
+plain schema (op.UpdateMany table matching tree) outside tables = done tables (update_many schema outside table.0 matching tree tables)
+plain schema (op.Upsert table at create update pick) outside tables = done tables (update_or_create schema outside table.0 create update pick (found_at schema tables table.0 at) tables)
+plain schema (op.Delete table at pick) outside tables = done tables (or_absent table.0 (found_at schema tables table.0 at) >>= λ row. delete_one schema table.0 pick row tables)
+plain schema (op.DeleteMany table matching) outside tables = done tables (delete_many schema table.0 matching tables)

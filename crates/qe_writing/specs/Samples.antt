@@ -5,7 +5,7 @@ use Rattle.qe_base.specs.declared.value.Kind.{Kind}
 use Rattle.qe_base.specs.declared.value.Kind.TheVariants as kind
 use Rattle.qe_base.specs.declared.value.Row.{Row}
 use Rattle.qe_base.specs.declared.value.Value.{Value}
-use Rattle.qe_base.specs.declared.value.Value.TheVariants.{Null, Text, Int}
+use Rattle.qe_base.specs.declared.value.Value.TheVariants.{Null, Text, Int, Moment}
 use Rattle.qe_base.specs.declared.schema.Action.{Action}
 use Rattle.qe_base.specs.declared.schema.Action.TheVariants.{Cascade, Restrict}
 use Rattle.qe_base.specs.declared.schema.Column.{Column}
@@ -19,12 +19,13 @@ use Rattle.qe_base.specs.declared.schema.Table.{Table}
 use Rattle.qe_base.specs.declared.query.Filter as filter
 use Rattle.qe_base.specs.declared.query.Unique.{Unique}
 use Rattle.qe_base.specs.declared.answer.Outside.{Outside}
-use Rattle.qe_schema.specs.Schemas.{Schema}
+use Rattle.qe_base.specs.Schemas.{Schema}
 use Rattle.qe_base.specs.declared.answer.Rule.{Rule}
-use Rattle.qe_tables.specs.Tables.{Tables, no_rows, with_rows}
-use Rattle.qe_writing.specs.State.{State, ◌>>=◌}
+use Rattle.qe_base.specs.declared.write.Edit.TheVariants.{Set}
+use Rattle.qe_schema.specs.Tables.{Tables, no_rows, with_rows}
+use Rattle.qe_writing.specs.WriteState.{WriteState, ◌>>=◌}
 use Rattle.qe_writing.specs.Fill.{Filled}
-use Rattle.qe_writing.specs.Write.{Creates, StepParts, FieldRuns, create_step, step_step}
+use Rattle.qe_writing.specs.Write.{Creates, Updates, StepParts, FieldRuns, create_step, update_step, step_step}
 
 abbrev pub column : List ℕ → Kind → Prelude.Bool → Fill → Column
 column name kind optional fill = record { name = name; stored = name; kind = kind; optional = optional; fill = fill; updated = false }
@@ -139,6 +140,31 @@ named n name = row (number n ∷ Text name ∷ [])
 abbrev pub one_team : Tables
 one_team = with_rows 1 (numbers (7 ∷ 1 ∷ []) ∷ []) (with_rows 0 (named 1 (codes "t") ∷ []) no_rows)
 
+-- ---- Day: at, a moment; Entry: id, at, which each update sets, with an optional reference to Day
+
+abbrev pub diary : Schema
+diary = record {
+  tables = model (codes "Day") (column (codes "at") kind.Moment false Absent ∷ []) (key (codes "at") (0 ∷ []) ∷ []) ((codes "at", Scalar 0) ∷ (codes "entries", Target (record { 0 = 0 })) ∷ [])
+      ∷ model (codes "Entry") (column (codes "id") kind.Int false Absent ∷ record (column (codes "at") kind.Moment true Absent) { updated = true } ∷ []) (key (codes "id") (0 ∷ []) ∷ [])
+      ((codes "id", Scalar 0) ∷ (codes "day", Holder (record { 0 = 0 })) ∷ (codes "at", Scalar 1) ∷ []) ∷ [];
+  relations = relation 1 (codes "day") (1 ∷ []) 0 (codes "entries") (0 ∷ []) true true Restrict ∷ [];
+  links = [];
+  choices = [];
+}
+
+abbrev pub day : ℕ → Row
+day at = row (Moment (pos at) ∷ [])
+
+abbrev pub entry : ℕ → Value → Row
+entry n at = row (number n ∷ at ∷ [])
+
+-- day 3, and entry 7 of it
+abbrev pub one_day : Tables
+one_day = with_rows 1 (entry 7 (Moment (pos 3)) ∷ []) (with_rows 0 (day 3 ∷ []) no_rows)
+
+abbrev pub at_five : Outside
+at_five = record { moment = pos 5; seed = 0 }
+
 -- ---- Post: id, counted; Category: id, counted, and a unique name; linked
 
 abbrev pub blog : Schema
@@ -162,13 +188,13 @@ blog = record {
 
 -- ---- what an example looks at
 
-abbrev pub rows_after : ℕ → Result State Rule → Result (List Row) Rule
+abbrev pub rows_after : ℕ → Result WriteState Rule → Result (List Row) Rule
 rows_after table result = result >>= λ state. Ok (state.tables.rows table)
 
 abbrev pub values_in : Result Filled Rule → Result (List Value) Rule
 values_in result = result >>= λ new. Ok new.values
 
-abbrev pub pairs_after : ℕ → Result State Rule → Result (List (Value × Value)) Rule
+abbrev pub pairs_after : ℕ → Result WriteState Rule → Result (List (Value × Value)) Rule
 pairs_after table result = result >>= λ state. Ok (state.tables.pairs table)
 
 -- a category by its name
@@ -179,7 +205,7 @@ abbrev pub by_id : ℕ → Unique
 by_id n = record { key = 0; values = row (number n ∷ []); extra = filter.All [] }
 
 -- the row of this id is being updated
-abbrev pub updating : ℕ → ℕ → Tables → State
+abbrev pub updating : ℕ → ℕ → Tables → WriteState
 updating table n tables = record { tables = tables; followed = record { table = table; id = Some (number n ∷ []) } ∷ []; drawn = 0 }
 
 -- steps on one field
@@ -189,3 +215,15 @@ steps_on schema field steps = record { field = field; steps = Prelude.map (step_
 -- a category of this name is made
 abbrev pub category : List ℕ → Creates
 category name = create_step blog nowhere (record { values = (1, Text name) ∷ []; nested = [] })
+
+-- a day is made
+abbrev pub new_day : ℕ → Creates
+new_day at = create_step diary at_five (record { values = (0, Moment (pos at)) ∷ []; nested = [] })
+
+-- the day is moved
+abbrev pub moved_day : ℕ → Updates
+moved_day at = update_step diary at_five (record { edits = (0, Set (Moment (pos at))) ∷ []; nested = [] })
+
+-- entry 7 of day 3 is updated by a step on its day
+abbrev pub entries_by : StepParts → Result (List Row) Rule
+entries_by step = rows_after 1 (update_step diary at_five (record { edits = []; nested = steps_on diary 1 (step ∷ []) }) 1 0 (updating 1 7 one_day))

@@ -9,12 +9,12 @@ use Rattle.qe_base.specs.declared.schema.Link.{Link}
 use Rattle.qe_base.specs.declared.schema.Relation.{Relation}
 use Rattle.qe_base.specs.declared.answer.Rule.{Rule}
 use Rattle.qe_base.specs.declared.answer.Rule.TheVariants as rule
-use Rattle.qe_schema.specs.Schemas.{Schema, link_of}
-use Rattle.qe_tables.specs.Columns.{Values, at_columns, are_same}
-use Rattle.qe_tables.specs.Pairs.{with_pair, without_pair}
-use Rattle.qe_tables.specs.Tables.{table_at, id_of, with_pairs}
+use Rattle.qe_base.specs.Schemas.{Schema, link_of}
+use Rattle.qe_schema.specs.Columns.{Values, at_columns, are_same}
+use Rattle.qe_schema.specs.Pairs.{with_pair, without_pair}
+use Rattle.qe_schema.specs.Tables.{table_at, id_of, with_pairs}
 use Rattle.qe_reading.specs.Related.{is_referred}
-use Rattle.qe_writing.specs.State.{State, ◌>>=◌, with_tables, present, row_followed, follow_all, unfollow}
+use Rattle.qe_writing.specs.WriteState.{WriteState, ◌>>=◌, with_tables, present, row_followed, follow_all, unfollow}
 use Rattle.qe_writing.specs.Delete.{nulls, relation_id}
 use Rattle.qe_writing.specs.Change.{change_of, first_or}
 use Rattle.qe_writing.specs.Given.{with_columns}
@@ -24,11 +24,11 @@ use Rattle.qe_writing.specs.Given.{with_columns}
 -- which they are followed.
 pub record Way : Type 0 where
   pub other : ℕ
-  pub attach : ℕ → ℕ → State → Result State Rule
-  pub make_room : (Row → Bool) → ℕ → State → Result State Rule
-  pub detach : ℕ → Row → State → Result State Rule
+  pub attach : ℕ → ℕ → WriteState → Result WriteState Rule
+  pub make_room : (Row → Bool) → ℕ → WriteState → Result WriteState Rule
+  pub detach : ℕ → Row → WriteState → Result WriteState Rule
   pub given : Row → List (ℕ × Value)
-  pub settle : ℕ → ℕ → State → Result State Rule
+  pub settle : ℕ → ℕ → WriteState → Result WriteState Rule
 
 abbrev pub no_relation : Relation
 no_relation = record {
@@ -49,33 +49,33 @@ relation_at schema number = unwrap_or (slice_get schema.relations number) no_rel
 
 -- ---- references that other rows hold
 
-abbrev pub children_of : Relation → Row → State → List Row
+abbrev pub children_of : Relation → Row → WriteState → List Row
 children_of relation parent state = filter (is_referred relation parent) (state.tables.rows relation.child.0)
 
 -- the child gets these values for its reference, with all that follows
-abbrev pub refer : Schema → Relation → Values → Row → State → Result State Rule
+abbrev pub refer : Schema → Relation → Values → Row → WriteState → Result WriteState Rule
 refer schema relation values child state = change_of schema relation.child.0 (id_of (table_at schema relation.child.0) child) (with_columns relation.child_columns values child) state
 
 -- a required reference can't become null
-abbrev pub let_go : Schema → ℕ → Row → State → Result State Rule
+abbrev pub let_go : Schema → ℕ → Row → WriteState → Result WriteState Rule
 let_go schema number child state =
     if (relation_at schema number).optional then refer schema (relation_at schema number) (nulls (relation_at schema number).child_columns) child state else Err (rule.Required (relation_id number))
 
-abbrev pub on_row : (Row → State → Result State Rule) → Option Row → State → Result State Rule
+abbrev pub on_row : (Row → WriteState → Result WriteState Rule) → Option Row → WriteState → Result WriteState Rule
 on_row step None state = Ok state
 on_row step (Some row) state = step row state
 
 -- one after another the rows that are followed from this place on, those that are still there
-abbrev pub each_followed : Schema → ℕ → (Row → State → Result State Rule) → List Row → ℕ → State → Result State Rule
+abbrev pub each_followed : Schema → ℕ → (Row → WriteState → Result WriteState Rule) → List Row → ℕ → WriteState → Result WriteState Rule
 each_followed schema table step [] place state = Ok state
 each_followed schema table step (row ∷ rows) place state = on_row step (row_followed schema table place state) state >>= each_followed schema table step rows (place + 1)
 
 -- these rows, in order, each followed
-abbrev pub each_row : Schema → ℕ → (Row → State → Result State Rule) → List Row → State → Result State Rule
+abbrev pub each_row : Schema → ℕ → (Row → WriteState → Result WriteState Rule) → List Row → WriteState → Result WriteState Rule
 each_row schema table step rows state = each_followed schema table step rows (length state.followed) (follow_all schema table rows state) >>= λ after. Ok (unfollow (length state.followed) after)
 
 -- where there is room for one row, another one that is related goes
-abbrev pub make_room_for_child : Schema → ℕ → (Row → Bool) → ℕ → State → Result State Rule
+abbrev pub make_room_for_child : Schema → ℕ → (Row → Bool) → ℕ → WriteState → Result WriteState Rule
 make_room_for_child schema number stays own state =
     if (relation_at schema number).many then Ok state
     else (present schema (relation_at schema number).parent.0 own state
@@ -84,7 +84,7 @@ make_room_for_child schema number stays own state =
 abbrev pub is_row : Schema → ℕ → Row → Row → Bool
 is_row schema table one other = are_same (id_of (table_at schema table) one) (id_of (table_at schema table) other)
 
-abbrev pub attach_child : Schema → ℕ → ℕ → ℕ → State → Result State Rule
+abbrev pub attach_child : Schema → ℕ → ℕ → ℕ → WriteState → Result WriteState Rule
 attach_child schema number own place state = do
   let relation = relation_at schema number
   parent ← present schema relation.parent.0 own state
@@ -128,16 +128,16 @@ abbrev pub pair_of : Bool → Value → Value → Value × Value
 pair_of true own other = (own, other)
 pair_of false own other = (other, own)
 
-abbrev pub pairs_to : ℕ → List (Value × Value) → State → State
+abbrev pub pairs_to : ℕ → List (Value × Value) → WriteState → WriteState
 pairs_to link pairs state = with_tables (with_pairs link pairs state.tables) state
 
-abbrev pub link_rows : Schema → ℕ → Bool → ℕ → ℕ → State → Result State Rule
+abbrev pub link_rows : Schema → ℕ → Bool → ℕ → ℕ → WriteState → Result WriteState Rule
 link_rows schema link is_a own place state = do
   row ← present schema (own_side is_a (link_at schema link)) own state
   other ← present schema (other_side is_a (link_at schema link)) place state
   Ok (pairs_to link (with_pair (pair_of is_a (single_id schema (own_side is_a (link_at schema link)) row) (single_id schema (other_side is_a (link_at schema link)) other)) (state.tables.pairs link)) state)
 
-abbrev pub unlink_row : Schema → ℕ → Bool → ℕ → Row → State → Result State Rule
+abbrev pub unlink_row : Schema → ℕ → Bool → ℕ → Row → WriteState → Result WriteState Rule
 unlink_row schema link is_a own other state = do
   row ← present schema (own_side is_a (link_at schema link)) own state
   Ok (pairs_to link (without_pair (pair_of is_a (single_id schema (own_side is_a (link_at schema link)) row) (single_id schema (other_side is_a (link_at schema link)) other)) (state.tables.pairs link)) state)

@@ -19,13 +19,15 @@ use Rattle.qe_base.specs.declared.write.Op.TheVariants as op
 use Rattle.qe_base.specs.declared.write.Step.TheOpen as step
 use Rattle.qe_base.specs.declared.write.Step.TheOpen.{Step-F, Create-F, Nested-F, Update-F}
 use Rattle.qe_base.specs.declared.write.Step.TheFolds.{fold-Create, fold-Update}
-use Rattle.qe_schema.specs.Schemas.{Schema}
-use Rattle.qe_tables.specs.Fits.{fits_column, has_number}
-use Rattle.qe_tables.specs.Tables.{table_at, is_model}
-use Rattle.qe_reading.specs.Related.{field_at, led_to_by, is_some_such, is_to_many}
+use Rattle.qe_base.specs.Schemas.{Schema}
+use Rattle.qe_schema.specs.Fits.{fits_column, has_number}
+use Rattle.qe_schema.specs.Tables.{table_at, is_model, column_at, field_at}
+use Rattle.qe_reading.specs.Related.{led_to_by, is_some_such, is_to_many}
 use Rattle.qe_reading.specs.Shape.{is_required}
-use Rattle.qe_reading.specs.Fits.{Fitting, column_at, is_empty, is_none_or, filter_fits, unique_fits, pick_fits, read_fits}
+use Rattle.qe_reading.specs.Fits.{Fitting, is_empty, is_none_or, filter_fits, unique_fits, pick_fits, read_fits}
+use Rattle.qe_writing.specs.Numbers.{is_one_of, are_distinct}
 use Rattle.qe_writing.specs.Ways.{relation_at}
+use Rattle.qe_writing.specs.Held.{gives_reference, columns_given}
 use Rattle.qe_writing.specs.Parts.{op_parts, is_few}
 
 -- ---- what folds of the tree give
@@ -55,16 +57,6 @@ pub record FittingSteps : Type 0 where
 
 abbrev pub FittingParts : Type 0
 FittingParts = Step-F FittingStep FittingCreate FittingSteps FittingUpdate
-
--- ---- numbers
-
-abbrev pub is_one_of : List ℕ → ℕ → Prelude.Bool
-is_one_of numbers number = list_any (λ other. other == number) numbers
-
--- no number stands there twice
-abbrev pub are_distinct : List ℕ → Prelude.Bool
-are_distinct [] = true
-are_distinct (number ∷ numbers) = not (is_one_of numbers number) && are_distinct numbers
 
 -- ---- values and edits
 
@@ -100,15 +92,6 @@ are_enough schema table columns = list_all (λ numbered. not (must_be_given numb
 
 -- ---- fields
 
--- the columns of the reference that a row holds in this field
-abbrev pub held_columns : Schema → Option Field → List ℕ
-held_columns schema None = []
-held_columns schema (Some (Scalar column)) = []
-held_columns schema (Some (Holder number)) = (relation_at schema number.0).child_columns
-held_columns schema (Some (Target number)) = []
-held_columns schema (Some (SideA table)) = []
-held_columns schema (Some (SideB table)) = []
-
 -- the columns for which a row gives values to one that is made through this field
 abbrev pub handed_columns : Schema → Option Field → List ℕ
 handed_columns schema None = []
@@ -135,7 +118,7 @@ is_needed schema table field = is_some_such (is_required schema) (field_at schem
 
 -- the columns that the steps of fields give their row
 abbrev pub taken_columns : Schema → ℕ → List FittingSteps → List ℕ
-taken_columns schema table nested = flat_map (λ steps. if steps.gives then held_columns schema (field_at schema table steps.field) else []) nested
+taken_columns schema table nested = flat_map (λ steps. columns_given schema table steps.field steps.gives) nested
 
 -- ---- steps
 
@@ -160,20 +143,6 @@ step_fits schema (step.Connect at) new table field other = unique_fits schema at
 step_fits schema (step.ConnectOrCreate at create) new table field other = unique_fits schema at other && create.fits other (handed_columns schema (field_at schema table field))
 step_fits schema (step.Create create) new table field other = create.fits other (handed_columns schema (field_at schema table field))
 step_fits schema (step.CreateMany creates) new table field other = has_children schema table field && list_all (λ create. create.flat && create.fits other (handed_columns schema (field_at schema table field))) creates
-
--- all but an update of the related row
-abbrev pub gives_reference : FittingParts → Prelude.Bool
-gives_reference (step.Set uniques) = true
-gives_reference (step.Disconnect at) = true
-gives_reference (step.Delete at) = true
-gives_reference (step.DeleteMany asked) = true
-gives_reference (step.Update at update) = false
-gives_reference (step.UpdateMany asked update) = false
-gives_reference (step.Upsert at create update) = true
-gives_reference (step.Connect at) = true
-gives_reference (step.ConnectOrCreate at create) = true
-gives_reference (step.Create create) = true
-gives_reference (step.CreateMany creates) = true
 
 abbrev pub step_step : Schema → FittingParts → FittingStep
 step_step schema one = record { gives = gives_reference one; fits = step_fits schema one }

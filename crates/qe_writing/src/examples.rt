@@ -1,14 +1,14 @@
 //! Worked examples of the definitions, by computation.
-ghost use Rattle.std.specs.Prelude.{◌≡◌, ℕ, pos, negsuc, List, [], ◌∷◌, Some, Ok, Err, Result, codes};
+ghost use Rattle.std.specs.Prelude.{◌≡◌, ℕ, pos, negsuc, List, [], ◌∷◌, Some, Ok, Err, Result, None, codes};
 ghost use Rattle.qe_base.specs.declared.value.Row.{Row};
-ghost use Rattle.qe_base.specs.declared.value.Value.TheVariants.{Null, Text, Int};
+ghost use Rattle.qe_base.specs.declared.value.Value.TheVariants.{Null, Text, Int, Moment};
 ghost use Rattle.qe_base.specs.declared.answer.Rule.{Rule};
 ghost use Rattle.qe_base.specs.declared.answer.Rule.TheVariants as rule;
 ghost use Rattle.qe_base.specs.declared.answer.Why.TheVariants as why;
 ghost use Rattle.qe_base.specs.declared.write.Edit.TheVariants.{Set, Add, Divide};
 ghost use Rattle.qe_base.specs.declared.write.Step.TheOpen as step;
-ghost use Rattle.qe_tables.specs.Tables.{no_rows, with_last};
-ghost use Rattle.qe_writing.specs.Samples.{team, one_team, named, blog, category, by_name, by_id, updating, steps_on, pairs_after, tree, node, ring, watched, chain, taken, free, numbers, number, tally, kinds, nowhere, row, rows_after, values_in};
+ghost use Rattle.qe_schema.specs.Tables.{no_rows, with_last};
+ghost use Rattle.qe_writing.specs.Samples.{team, one_team, named, blog, category, by_name, by_id, updating, steps_on, pairs_after, tree, node, ring, watched, chain, taken, free, numbers, number, tally, kinds, nowhere, row, rows_after, values_in, entry, new_day, moved_day, entries_by};
 ghost use Rattle.qe_writing.specs.Doomed.{place_of};
 ghost use Rattle.qe_writing.specs.Delete.{delete_of};
 ghost use Rattle.qe_writing.specs.Change.{change_of};
@@ -32,10 +32,10 @@ pub fn changes_along_a_chain()
 
 /// Division goes towards zero; by zero, and past the kind, it is refused; null stays null.
 pub fn edits_of_numbers()
-    ensures towards_zero { edited tally 0 ((1, Divide (negsuc 1)) ∷ []) nowhere (numbers (1 ∷ 2147483647 ∷ [])) ≡ Ok (row (number 1 ∷ Int (negsuc 1073741822) ∷ [])) }
-    ensures by_zero { edited tally 0 ((1, Divide (pos 0)) ∷ []) nowhere (numbers (1 ∷ 7 ∷ [])) ≡ Err (rule.Range (record { 0 = 0 }) 1 why.Zero) }
-    ensures past { edited tally 0 ((1, Add (pos 1)) ∷ []) nowhere (numbers (1 ∷ 2147483647 ∷ [])) ≡ Err (rule.Range (record { 0 = 0 }) 1 why.Range) }
-    ensures null { edited tree 0 ((1, Divide (pos 0)) ∷ []) nowhere (node 1 Null Null) ≡ Ok (node 1 Null Null) }
+    ensures towards_zero { edited tally 0 ((1, Divide (negsuc 1)) ∷ []) [] nowhere (numbers (1 ∷ 2147483647 ∷ [])) ≡ Ok (row (number 1 ∷ Int (negsuc 1073741822) ∷ [])) }
+    ensures by_zero { edited tally 0 ((1, Divide (pos 0)) ∷ []) [] nowhere (numbers (1 ∷ 7 ∷ [])) ≡ Err (rule.Range (record { 0 = 0 }) 1 why.Zero) }
+    ensures past { edited tally 0 ((1, Add (pos 1)) ∷ []) [] nowhere (numbers (1 ∷ 2147483647 ∷ [])) ≡ Err (rule.Range (record { 0 = 0 }) 1 why.Range) }
+    ensures null { edited tree 0 ((1, Divide (pos 0)) ∷ []) [] nowhere (node 1 Null Null) ≡ Ok (node 1 Null Null) }
 {}
 
 /// A counter gives the next number until there is none.
@@ -65,4 +65,14 @@ pub fn connect_or_create_twice()
 /// A delete of a kid that takes the row itself along leaves nothing to be updated.
 pub fn delete_of_the_row_being_updated()
     ensures refused { rows_after 0 (update_step tree nowhere (record { edits = []; nested = steps_on tree 3 (step.Delete (Some (by_id 2)) ∷ []) }) 0 0 (updating 0 1 ring)) ≡ Err (rule.Absent (record { 0 = 0 })) }
+{}
+
+/// A step on a field gives the reference that the field holds, also where it attaches no row: then it stays, and
+/// isn't set by the update. Only an update of the row that it leads to doesn't give it.
+pub fn references_that_steps_give()
+    ensures disconnect { entries_by (step.Disconnect None) ≡ Ok (entry 7 Null ∷ []) }
+    ensures upsert { entries_by (step.Upsert None (new_day 9) (moved_day 4)) ≡ Ok (entry 7 (Moment (pos 4)) ∷ []) }
+    ensures delete { entries_by (step.Delete None) ≡ Ok (entry 7 Null ∷ []) }
+    ensures create { entries_by (step.Create (new_day 9)) ≡ Ok (entry 7 (Moment (pos 9)) ∷ []) }
+    ensures update { entries_by (step.Update None (moved_day 4)) ≡ Ok (entry 7 (Moment (pos 5)) ∷ []) }
 {}

@@ -5,13 +5,14 @@ ghost use Rattle.qe_base.specs.declared.value.Value.TheVariants.{Null, Text, Int
 ghost use Rattle.qe_base.specs.declared.write.Edit.TheVariants.{Set, Add};
 ghost use Rattle.qe_base.specs.declared.write.Create.{Create};
 ghost use Rattle.qe_base.specs.declared.write.Op.{Op};
+ghost use Rattle.qe_base.specs.declared.write.Op.TheVariants.{CreateMany};
 ghost use Rattle.qe_base.specs.declared.write.Step.TheOpen as step;
 ghost use Rattle.qe_base.specs.declared.write.Update.{Update};
-ghost use Rattle.qe_schema.specs.Schemas.{Schema};
-ghost use Rattle.qe_tables.specs.Tables.{is_model};
+ghost use Rattle.qe_base.specs.Schemas.{Schema};
+ghost use Rattle.qe_schema.specs.Tables.{is_model};
 ghost use Rattle.qe_writing.specs.Samples.{team, number, by_id};
 ghost use Rattle.qe_writing.specs.FitSamples.{new, changed, team_with, steps_in, alone, placed, whole_team};
-ghost use Rattle.qe_writing.specs.WriteFits.{create_fits, update_fits, op_fits, op_table};
+ghost use Rattle.qe_writing.specs.WriteFits.{create_fits, update_fits, op_fits, batch_fits, op_table};
 
 /// A new member has a team by its column, by its own step or by the team that it is made with, and by
 /// one of them alone.
@@ -52,6 +53,13 @@ pub fn edits_that_fit()
     ensures set_null { (changed ((1, Set Null) ∷ []) []).fits 0 ≡ false }
     ensures twice { (changed ((0, Add (pos 1)) ∷ (0, Set (number 2)) ∷ []) []).fits 0 ≡ false }
     ensures reference_and_step { (changed ((1, Set (number 2)) ∷ []) (steps_in 1 (step.Update None (changed [] []) ∷ []))).fits 1 ≡ true }
+{}
+
+/// A batch has at least one operation.
+pub fn batches_that_fit()
+    ensures empty { batch_fits team [] ≡ false }
+    ensures one { batch_fits team (CreateMany (record { 0 = 0 }) [] None ∷ []) ≡ true }
+    ensures one_that_does_not_fit { batch_fits team (CreateMany (record { 0 = 2 }) [] None ∷ []) ≡ false }
 {}
 
 /// An operation that fits is on a model, and so is each row that it makes or changes.

@@ -1,5 +1,5 @@
 use Rattle.std.proofs.Common.{◌≡◌, ◌++◌, map, drop}
-use Rattle.qe_schema.specs.SchemaOf.{choice_of}
+use Rattle.psl_sound.specs.SchemaOf.{choice_of}
 use Rattle.psl_columns.proofs.choice.choices.Given as goal
 
 abbrev pub invariant-loop-enumeration : goal.invariant-loop-enumeration

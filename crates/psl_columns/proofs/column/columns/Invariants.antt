@@ -4,7 +4,7 @@ use Rattle.psl_text.specs.declared.tree.Entry.{Entry}
 use Rattle.qe_base.specs.declared.schema.Column.{Column}
 use Rattle.psl_rules.specs.Parts.{field_of}
 use Rattle.psl_rules.specs.Names.{is_column}
-use Rattle.qe_schema.specs.SchemaOf.{column_of}
+use Rattle.psl_sound.specs.SchemaOf.{column_of}
 use Rattle.psl_columns.proofs.column.columns.Given as goal
 
 abbrev pub invariant-loop-entry : goal.invariant-loop-entry

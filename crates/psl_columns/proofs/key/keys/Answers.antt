@@ -1,6 +1,6 @@
 use Rattle.std.proofs.Common.{map, Bor, List, ℕ, ap, ◌∙◌}
 use Rattle.std.specs.Prelude.{codes}
-use Rattle.qe_schema.specs.SchemaOf.{column_names, keys_called}
+use Rattle.psl_sound.specs.SchemaOf.{column_names, keys_called}
 use Rattle.psl_columns.proofs.Places.{keys_joined}
 use Rattle.psl_columns.proofs.key.keys.Goals as goal
 

@@ -1,5 +1,5 @@
 use Rattle.std.proofs.Common.{◌≡◌, ◌++◌, map, drop}
-use Rattle.qe_schema.specs.SchemaOf.{number_among}
+use Rattle.psl_sound.specs.SchemaOf.{number_among}
 use Rattle.psl_columns.proofs.key.numbers_among.Given as goal
 
 abbrev pub invariant-loop-name : goal.invariant-loop-name

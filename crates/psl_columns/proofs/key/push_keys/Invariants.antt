@@ -2,7 +2,7 @@ use Rattle.std.proofs.Common.{◌≡◌, ◌++◌, List, map, drop}
 use Rattle.std.specs.List.{flat_map}
 use Rattle.psl_text.specs.declared.tree.Entry.{Entry}
 use Rattle.qe_base.specs.declared.schema.Key.{Key}
-use Rattle.qe_schema.specs.SchemaOf.{keys_called_in}
+use Rattle.psl_sound.specs.SchemaOf.{keys_called_in}
 use Rattle.psl_columns.specs.Numbered.{numbered}
 use Rattle.psl_columns.proofs.key.push_keys.Given as goal
 

@@ -1,6 +1,7 @@
 use Rattle.std.proofs.Common.{◌≡◌, map, not, ap, sym, ◌∙◌}
 use Rattle.psl_text.specs.declared.tree.Attribute.{Attribute}
-use Rattle.psl_rules.specs.Parts.{noted, is_among}
+use Rattle.psl_rules.specs.Parts.{noted}
+use Rattle.qe_text.specs.Lists.{is_among}
 use Rattle.psl_rules.specs.Attributes.{attribute_place}
 use Rattle.psl_parts.proofs.Firsts.{turn_failing}
 use Rattle.std.specs.Prelude.{bytes_eq}

@@ -1,7 +1,8 @@
 use Rattle.std.proofs.Common.{List, [], ◌++◌}
 use Rattle.std.specs.List.{flat_map, filter_map}
 use Rattle.psl_text.specs.declared.tree.Entry.{Entry}
-use Rattle.psl_rules.specs.Parts.{first, member_of, block_attribute_of, is_among}
+use Rattle.psl_rules.specs.Parts.{first, member_of, block_attribute_of}
+use Rattle.qe_text.specs.Lists.{is_among}
 use Rattle.psl_rules.specs.Attributes.{unknown}
 use Rattle.psl_parts.proofs.Parted.{turn}
 use Rattle.psl_parts.proofs.Models.{parted_enum}

@@ -1,7 +1,8 @@
 use Rattle.std.proofs.Common.{◌≡◌, ◌∙◌, ℕ, sym, ap, map, Bor, not, List}
 use Rattle.qe_text.specs.Names.{reserved_names}
 use Rattle.psl_text.specs.declared.tree.Name.{Name}
-use Rattle.psl_rules.specs.Parts.{first, earlier, failing, place, repeats, is_among}
+use Rattle.psl_rules.specs.Parts.{first, earlier, failing, place}
+use Rattle.qe_text.specs.Lists.{repeats, is_among}
 use Rattle.psl_rules.specs.Names.{same_name, type_names}
 use Rattle.psl_parts.proofs.Firsts.{first_append}
 use Rattle.psl_fields.proofs.names.type_names_are_distinct.Goals as goal

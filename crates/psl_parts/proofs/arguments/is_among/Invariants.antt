@@ -1,5 +1,5 @@
 use Rattle.std.proofs.Common.{◌≡◌, map, drop}
-use Rattle.psl_rules.specs.Parts.{is_among}
+use Rattle.qe_text.specs.Lists.{is_among}
 use Rattle.psl_parts.proofs.arguments.is_among.Given as goal
 
 abbrev pub invariant-loop-other : goal.invariant-loop-other

@@ -1,6 +1,6 @@
 use Rattle.std.proofs.Common.{◌≡◌, ◌==◌, length, map, drop, take}
 use Rattle.std.specs.Prelude.{bytes_eq}
-use Rattle.psl_rules.specs.Parts.{repeats_behind}
+use Rattle.qe_text.specs.Lists.{repeats_behind}
 use Rattle.psl_rules.specs.Attributes.{are_distinct_names}
 use Rattle.psl_parts.proofs.columns.are_distinct.Given as goal
 

@@ -1,5 +1,6 @@
 use Rattle.std.proofs.Common.{refl}
-use Rattle.psl_rules.specs.Parts.{first, place, repeats}
+use Rattle.psl_rules.specs.Parts.{first, place}
+use Rattle.qe_text.specs.Lists.{repeats}
 use Rattle.psl_rules.specs.Names.{same_name}
 use Rattle.psl_parts.proofs.Repeated.{turn}
 use Rattle.psl_parts.proofs.repeats.first_repeat.Goals as goal

@@ -2,7 +2,8 @@ use Rattle.std.proofs.Common.{◌≡◌, ℕ, List, Bool, map, drop, take}
 use Rattle.std.specs.Prelude.{bytes_eq}
 use Rattle.std.specs.List.{list_any}
 use Rattle.psl_text.specs.declared.tree.Name.{Name}
-use Rattle.psl_rules.specs.Parts.{first, earlier, place, repeats, repeats_behind}
+use Rattle.psl_rules.specs.Parts.{first, earlier, place}
+use Rattle.qe_text.specs.Lists.{repeats, repeats_behind}
 use Rattle.psl_rules.specs.Names.{same_name}
 use Rattle.psl_parts.proofs.Repeated.{Seen}
 use Rattle.psl_parts.proofs.repeats.first_repeat.Given as goal

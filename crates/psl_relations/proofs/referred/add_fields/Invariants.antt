@@ -1,6 +1,6 @@
 use Rattle.std.proofs.Common.{◌≡◌, ◌&&◌, ◌||◌, List, ℕ, map, drop}
 use Rattle.std.specs.Prelude.{bytes_eq}
-use Rattle.psl_rules.specs.Parts.{is_among}
+use Rattle.qe_text.specs.Lists.{is_among}
 use Rattle.psl_relations.specs.Referred.{has_field}
 use Rattle.psl_relations.proofs.referred.add_fields.Given as goal
 

@@ -1,7 +1,7 @@
 use Rattle.std.proofs.Common.{◌≡◌, ◌||◌, List, ℕ, map, drop}
 use Rattle.std.specs.Prelude.{bytes_eq}
 use Rattle.std.specs.List.{list_any}
-use Rattle.psl_rules.specs.Parts.{is_among}
+use Rattle.qe_text.specs.Lists.{is_among}
 use Rattle.psl_relations.specs.Walks.{Begins}
 use Rattle.psl_relations.proofs.walks.follow.Given as goal
 

@@ -1,5 +1,5 @@
 use Rattle.std.proofs.Common.{rules, arith, ap, sym, ◌∙◌, ◌≡◌, ◌<◌, ◌≤◌, ◌||◌, ◌++◌, ◌∷◌, [], List, ℕ, map, length, cond}
-use Rattle.psl_rules.specs.Parts.{is_among}
+use Rattle.qe_text.specs.Lists.{is_among}
 use Rattle.psl_rules.specs.Updates.{Step}
 use Rattle.psl_parts.proofs.Lookups.{has}
 use Rattle.psl_relations.proofs.Walked.{begun, walked_on, walked}

@@ -2,7 +2,7 @@ use Rattle.std.proofs.Common.{◌≡◌, List, ℕ, map, IfOk, ap, subst, ◌∙
 use Rattle.psl_rules.specs.Parts.{ModelField}
 use Rattle.psl_rules.specs.Keys.{id_names}
 use Rattle.psl_rules.specs.Foreign.{fields_named}
-use Rattle.qe_schema.specs.SchemaOf.{first_kind, kind_of}
+use Rattle.psl_sound.specs.SchemaOf.{first_kind, kind_of}
 use Rattle.psl_values.proofs.link.id_kind.Goals as goal
 
 pub returns : goal.returns

@@ -1,6 +1,6 @@
 use Rattle.std.proofs.Common.{◌≡◌, ◌++◌, map, drop}
 use Rattle.std.specs.List.{enumerate_from}
-use Rattle.qe_schema.specs.SchemaOf.{link_between}
+use Rattle.psl_sound.specs.SchemaOf.{link_between}
 use Rattle.psl_values.proofs.link.links_between.Given as goal
 
 abbrev pub invariant-loop-number : goal.invariant-loop-number

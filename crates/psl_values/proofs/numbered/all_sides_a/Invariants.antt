@@ -1,5 +1,5 @@
 use Rattle.std.proofs.Common.{◌≡◌, ◌++◌, map, drop}
-use Rattle.qe_schema.specs.SchemaOf.{side_a}
+use Rattle.psl_sound.specs.SchemaOf.{side_a}
 use Rattle.psl_values.proofs.numbered.all_sides_a.Given as goal
 
 abbrev pub invariant-loop-pair : goal.invariant-loop-pair

@@ -1,5 +1,5 @@
 use Rattle.std.proofs.Common.{◌≡◌, ◌++◌, map, drop}
-use Rattle.qe_schema.specs.SchemaOf.{block_name}
+use Rattle.psl_sound.specs.SchemaOf.{block_name}
 use Rattle.psl_values.proofs.numbers.block_names.Given as goal
 
 abbrev pub invariant-loop-block : goal.invariant-loop-block

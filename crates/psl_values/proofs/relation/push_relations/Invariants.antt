@@ -1,5 +1,5 @@
 use Rattle.std.proofs.Common.{◌≡◌, ◌++◌, map, drop}
-use Rattle.qe_schema.specs.SchemaOf.{relation_between}
+use Rattle.psl_sound.specs.SchemaOf.{relation_between}
 use Rattle.psl_values.proofs.relation.push_relations.Given as goal
 
 abbrev pub invariant-loop-target : goal.invariant-loop-target

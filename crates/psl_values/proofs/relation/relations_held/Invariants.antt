@@ -2,7 +2,7 @@ use Rattle.std.proofs.Common.{◌≡◌, ◌++◌, List, map, drop}
 use Rattle.std.specs.List.{flat_map}
 use Rattle.qe_base.specs.declared.schema.Relation.{Relation}
 use Rattle.psl_rules.specs.Relations.{End, partners_among}
-use Rattle.qe_schema.specs.SchemaOf.{relation_between}
+use Rattle.psl_sound.specs.SchemaOf.{relation_between}
 use Rattle.psl_values.proofs.relation.relations_held.Given as goal
 
 abbrev pub invariant-loop-holder : goal.invariant-loop-holder

@@ -1,5 +1,5 @@
 use Rattle.std.proofs.Common.{◌≡◌, ◌++◌, map, drop}
-use Rattle.qe_schema.specs.SchemaOf.{link_table}
+use Rattle.psl_sound.specs.SchemaOf.{link_table}
 use Rattle.psl_values.proofs.table.push_links.Given as goal
 
 abbrev pub invariant-loop-pair : goal.invariant-loop-pair

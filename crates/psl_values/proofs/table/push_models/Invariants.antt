@@ -1,5 +1,5 @@
 use Rattle.std.proofs.Common.{◌≡◌, ◌++◌, map, drop}
-use Rattle.qe_schema.specs.SchemaOf.{table_of}
+use Rattle.psl_sound.specs.SchemaOf.{table_of}
 use Rattle.psl_values.proofs.table.push_models.Given as goal
 
 abbrev pub invariant-loop-model : goal.invariant-loop-model

@@ -2,7 +2,7 @@ use Rattle.std.proofs.Common.{◌≡◌, sym, subst, map, string_bytes, ◌∙�
 use Rattle.qe_cli.specs.Command.{SchemaComes}
 use Rattle.qe_cli.specs.Connected.{connected}
 use Rattle.qe_cli.specs.Refused.{HasSchema, Unread}
-use Rattle.qe_cli.proofs.Ending.{obeyed, unread, not_run}
+use Rattle.qe_cli.proofs.Ending.{obeyed, unread, not_run, opened_for}
 use Rattle.qe_cli.proofs.commands.carry_out.Goals as goal
 
 pub returns-in-Ok-read_schema-clause-comes : goal.returns-in-Ok-read_schema-clause-comes
@@ -28,3 +28,12 @@ pub returns-in-Ok-read_schema-clause-still : goal.returns-in-Ok-read_schema-clau
 returns-in-Ok-read_schema-clause-still g c = λ asks.
     let still = c.obey.ensures.still (not_run (map string_bytes c.args.words.now) c.in-Some.command c.in-Some.name.now (sym c.in-Some.ensures) asks) in
     (still.0 ∙ c.fetch.ensures.input.0, still.1 ∙ c.fetch.ensures.input.1)
+
+pub returns-in-Ok-read_schema-clause-opened : goal.returns-in-Ok-read_schema-clause-opened
+returns-in-Ok-read_schema-clause-opened g c = λ asks done.
+    let schema = c.in-Ok-read_schema.schema in
+    opened_for (map string_bytes c.args.words.now) (g.H.Host.files c.args.host.now) c.in-Some.name.now c.in-Ok.text c.in-Some.command schema (g.C.Connector.attached c.obey.result.1) (sym c.in-Some.ensures) c.in-Ok.ensures.fetches.bytes
+    (subst (λ t. HasSchema t schema) c.as_slice.ensures c.in-Ok-read_schema.ensures.ok) asks (λ run. c.obey.ensures.opened run done)
+
+pub returns-clause-opened : goal.returns-clause-opened
+returns-clause-opened g c = λ asks done. absurd (subst (λ e. Unread e c.as_slice.result.now) done c.in-Err.ensures.err)

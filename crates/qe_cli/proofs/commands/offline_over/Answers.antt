@@ -4,7 +4,7 @@ use Rattle.qe_cli.specs.Command.{Comes, HasSchemaFile, AnswersAll, SaysOk, SaysL
 use Rattle.qe_cli.specs.Connected.{connected}
 use Rattle.qe_cli.specs.declared.End.TheVariants as end
 use Rattle.qe_cli.proofs.Complete.{accepts, rejects, no_fault, as_it_was, is_shut, is_opened}
-use Rattle.qe_cli.proofs.Ending.{all_answered, said_layout, said_ok, says_why, printed_end, prints_over}
+use Rattle.qe_cli.proofs.Ending.{was_done, all_answered, said_layout, said_ok, says_why, printed_end, prints_over}
 use Rattle.qe_cli.proofs.commands.offline_over.Goals as goal
 
 pub returns-clause-ends : goal.returns-clause-ends
@@ -171,3 +171,6 @@ returns-clause-refuses g c = λ steady.
     let has : HasSchemaFile words files = (offer.0, offer.1, offer.2, offer.3, offer.4, offer.5, offer.6) in
     let sure : c.status.result ≡ 4 → ⊥ = no_fault c.status.result c.print_end-printed.result c.carry_out-end.result.0 c.status.ensures c.print_end-printed.ensures.end (c.carry_out-end.ensures.fetch_steady steady has) read write in
     rejects c.status.result c.print_end-printed.result given back apart words files before left taken mid why c.status.ensures (printed_end c.print_end-printed.result c.carry_out-end.result.0 given back apart words files before left taken mid c.print_end-printed.ensures.end c.carry_out-end.ensures.comes) sure offer
+
+pub returns-clause-opened : goal.returns-clause-opened
+returns-clause-opened g c = λ asks nought. c.carry_out-end.ensures.opened asks (was_done c.status.result c.print_end-printed.result c.carry_out-end.result.0 c.status.ensures c.print_end-printed.ensures.end nought)

@@ -1,6 +1,6 @@
 use Rattle.std.proofs.Common.{rules, arith, ◌≡◌, ◌<◌, ◌-◌, ◌++◌, refl, sym, ap, subst, take, Some, false, ◌+◌}
 use Rattle.std.specs.Prelude.{IfErr, IfSome, OnOk}
-use Rattle.qe_exchange.specs.Lines.{is_blank}
+use Rattle.qe_history.specs.Lines.{is_blank}
 use Rattle.std.proofs.lemmas.Bool.Decides.{nat_tests}
 use Rattle.qe_lines.specs.declared.LinesEnd.TheVariants as ends
 use Rattle.qe_lines.specs.Ends.{EndsRun, Halts, Takes, Stops, cuts, end_by, end_behind, longest_input}

@@ -1,5 +1,5 @@
 use Rattle.std.proofs.Common.{rules, ℕ, List, false, ◌≡◌, ◌++◌, ◌∙◌, refl, sym, subst}
-use Rattle.qe_exchange.specs.Lines.{is_blank}
+use Rattle.qe_history.specs.Lines.{is_blank}
 use Rattle.qe_lines.specs.Run.{Goes, LineTaken, LineStopped, has_newline}
 use Rattle.qe_lines.specs.Ends.{Stops, Takes, cuts}
 use Rattle.qe_lines.proofs.Going.{goes_none, goes_as, goes_on}

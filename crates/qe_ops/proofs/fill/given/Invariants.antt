@@ -1,5 +1,5 @@
 use Rattle.std.proofs.Common.{◌≡◌, drop}
-use Rattle.qe_plain.specs.Filled.{given_for}
+use Rattle.qe_writing.specs.Fill.{given_for}
 use Rattle.qe_ops.proofs.fill.given.Given as goal
 
 -- the values so far are for other columns

@@ -1,8 +1,8 @@
 use Rattle.std.proofs.Common.{ap, sym, subst, ◌∙◌, Some}
 use Rattle.std.proofs.lemmas.Option.{slice_get-get_or}
-use Rattle.qe_put_laws.proofs.Lists.{in_place}
-use Rattle.qe_schema.specs.Kept.{KeyStands}
-use Rattle.qe_tables.specs.Tables.{table_at}
+use Rattle.qe_schema.proofs.Members.{in_place}
+use Rattle.qe_schema.specs.Keys.{KeyStands}
+use Rattle.qe_schema.specs.Tables.{table_at}
 use Rattle.qe_ops.proofs.keys.first_held.Goals as goal
 
 pub is_held-requires-clause-key : goal.is_held-requires-clause-key

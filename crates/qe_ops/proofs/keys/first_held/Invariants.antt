@@ -1,6 +1,6 @@
 use Rattle.std.proofs.Common.{◌≡◌, drop, None, is_some}
 use Rattle.std.specs.Prelude.{IfSome}
-use Rattle.qe_tables.specs.Put.{broken_key}
+use Rattle.qe_schema.specs.Put.{broken_key}
 use Rattle.qe_ops.specs.Leaves.{Leaves, counts}
 use Rattle.qe_ops.proofs.keys.first_held.Given as goal
 

@@ -1,5 +1,5 @@
 use Rattle.std.proofs.Common.{sym, ap, ◌∙◌}
-use Rattle.qe_tables.specs.Columns.{has_null, at_columns}
+use Rattle.qe_schema.specs.Columns.{has_null, at_columns}
 use Rattle.qe_ops.proofs.Keyed.{null_unheld, can_load_own, held_by}
 use Rattle.qe_ops.proofs.keys.is_held.Goals as goal
 

@@ -1,6 +1,6 @@
 use Rattle.qe_base.specs.declared.value.Row.{Row}
-use Rattle.qe_tables.specs.Fits.{fit_columns}
-use Rattle.qe_tables.specs.Tables.{table_at}
+use Rattle.qe_schema.specs.Fits.{fit_columns}
+use Rattle.qe_schema.specs.Tables.{table_at}
 use Rattle.qe_ops.proofs.Keyed.{row_loaded, first_passes}
 use Rattle.qe_ops.proofs.keys.load.Goals as goal
 

@@ -1,6 +1,6 @@
 use Rattle.std.proofs.Common.{sym, subst}
 use Rattle.qe_base.specs.declared.write.Op.{Op}
-use Rattle.qe_plain.specs.Plain.{plain}
+use Rattle.qe_writing.specs.Plain.{plain}
 use Rattle.qe_ops.specs.Performs.{Carries}
 use Rattle.qe_ops.proofs.run.carry_out.Goals as goal
 

@@ -1,4 +1,4 @@
-use Rattle.qe_plain.specs.Plain.{plain}
+use Rattle.qe_writing.specs.Plain.{plain}
 use Rattle.qe_ops.proofs.Carrying.{performs_ok, performs_err}
 use Rattle.qe_ops.proofs.run.run_op.Goals as goal
 

@@ -1,5 +1,5 @@
 use Rattle.std.proofs.Common.{◌≡◌, map, take, slice_get}
-use Rattle.qe_plain.specs.Shape.{scalar_of}
+use Rattle.qe_reading.specs.Shape.{scalar_of}
 use Rattle.qe_ops.proofs.shape.shape.Given as goal
 
 -- the columns shown so far

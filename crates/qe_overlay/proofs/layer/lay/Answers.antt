@@ -1,5 +1,5 @@
 use Rattle.std.proofs.Common.{◌∙◌, ap}
-use Rattle.qe_tables.specs.Columns.{at_columns}
+use Rattle.qe_schema.specs.Columns.{at_columns}
 use Rattle.qe_overlay.proofs.Laying.{laid_next}
 use Rattle.qe_overlay.proofs.layer.lay.Goals as goal
 

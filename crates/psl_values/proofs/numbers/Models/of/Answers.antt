@@ -3,7 +3,7 @@ use Rattle.std.specs.Prelude.{position}
 use Rattle.psl_text.specs.declared.tree.Block.{Block}
 use Rattle.psl_rules.specs.Parts.{models}
 use Rattle.psl_relations.specs.Back.{same_text}
-use Rattle.qe_schema.specs.SchemaOf.{block_name}
+use Rattle.psl_sound.specs.SchemaOf.{block_name}
 use Rattle.psl_values.proofs.numbers.Models.of.Goals as goal
 
 pub invariant_of-result : goal.invariant_of-result

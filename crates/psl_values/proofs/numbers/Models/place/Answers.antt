@@ -2,7 +2,7 @@ use Rattle.std.proofs.Common.{rules, ◌≡◌, ℕ, List, ap, sym, map, ◌∙�
 use Rattle.std.specs.Prelude.{position, bytes_eq}
 use Rattle.psl_text.specs.declared.tree.Tree.{Tree}
 use Rattle.psl_rules.specs.Parts.{models}
-use Rattle.qe_schema.specs.SchemaOf.{block_name}
+use Rattle.psl_sound.specs.SchemaOf.{block_name}
 use Rattle.psl_columns.proofs.Places.{position_map}
 use Rattle.psl_values.proofs.numbers.Models.place.Goals as goal
 

@@ -1,13 +1,14 @@
 use Rattle.std.proofs.Common.{◌∙◌, sym, subst, is_some, Err, IsErrOf}
 use Rattle.qe_base.specs.Causes.{HasCause}
-use Rattle.qe_changes.specs.declared.ConnFault.TheVariants as conn
-use Rattle.qe_exchange.specs.Exchange.{outside}
+use Rattle.qe_view.specs.declared.changes.ConnFault.TheVariants as conn
+use Rattle.qe_history.specs.Exchange.{outside}
 use Rattle.qe_ops.specs.Leaves.{counts}
+use Rattle.qe_ops.proofs.Carrying.{handed_on}
 use Rattle.qe_overlay.specs.Fits.{versions_over}
 use Rattle.qe_overlay.specs.Held.{held_in}
-use Rattle.qe_plain.specs.Plain.{plain}
+use Rattle.qe_writing.specs.Plain.{plain}
 use Rattle.qe_desk.specs.Settles.{HasFaults, Settles}
-use Rattle.qe_desk.proofs.Resting.{answered_settles, handed_on, refused_rests, refused_settles, rests, unsettled_back, unsettled_settles}
+use Rattle.qe_desk.proofs.Resting.{answered_settles, refused_rests, refused_settles, rests, unsettled_back, unsettled_settles}
 use Rattle.qe_desk.proofs.Settling.{unsettled_faults}
 use Rattle.qe_desk.proofs.desk.ConnectorDesk.settled.Goals as goal
 

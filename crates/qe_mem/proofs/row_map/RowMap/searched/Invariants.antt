@@ -1,5 +1,5 @@
 use Rattle.std.proofs.Common.{◌≡◌, ◌++◌, filter}
-use Rattle.qe_changes.specs.After.{is_wanted}
+use Rattle.qe_view.specs.After.{is_wanted}
 use Rattle.qe_mem.specs.RowMaps.{standing}
 use Rattle.qe_mem.proofs.row_map.RowMap.searched.Given as goal
 

@@ -1,5 +1,5 @@
 use Rattle.std.proofs.Common.{◌≡◌, ℕ, List, ◌∷◌, [], filter, sym, ap, ◌∙◌}
-use Rattle.qe_changes.specs.After.{is_wanted}
+use Rattle.qe_view.specs.After.{is_wanted}
 use Rattle.qe_mem.specs.RowMaps.{RowMap, HaveIds, rows_of}
 use Rattle.qe_mem.proofs.Slots.{if_ok, only_one, same_columns}
 use Rattle.qe_mem.proofs.row_map.RowMap.wanted.Goals as goal

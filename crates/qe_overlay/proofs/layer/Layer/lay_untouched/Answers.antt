@@ -1,5 +1,5 @@
 use Rattle.std.proofs.Common.{◌∙◌, sym, ap}
-use Rattle.qe_tables.specs.Columns.{at_columns}
+use Rattle.qe_schema.specs.Columns.{at_columns}
 use Rattle.qe_overlay.proofs.Laying.{kept_next, left_next}
 use Rattle.qe_overlay.proofs.layer.Layer.lay_untouched.Goals as goal
 

@@ -1,5 +1,5 @@
 use Rattle.std.proofs.Common.{◌++◌, ◌∙◌, sym, ap, filter}
-use Rattle.qe_changes.specs.After.{is_wanted}
+use Rattle.qe_view.specs.After.{is_wanted}
 use Rattle.qe_overlay.specs.Layers.{present, Layer}
 use Rattle.qe_overlay.proofs.Laying.{chosen_of, chosen-present, chosen_step, chosen_end}
 use Rattle.qe_overlay.proofs.layer.Layer.wanted.Goals as goal

@@ -1,5 +1,5 @@
 use Rattle.std.proofs.Common.{◌≡◌, ◌++◌, filter}
-use Rattle.qe_changes.specs.After.{is_wanted}
+use Rattle.qe_view.specs.After.{is_wanted}
 use Rattle.qe_overlay.specs.Layers.{present}
 use Rattle.qe_overlay.proofs.Laying.{chosen_of}
 use Rattle.qe_overlay.proofs.layer.Layer.wanted.Given as goal

@@ -1,9 +1,9 @@
 use Rattle.std.proofs.Common.{rules, ◌≡◌, ◌<◌, ◌≤◌, [], length, take, List}
 use Rattle.std.specs.Prelude.{IfOk}
-use Rattle.qe_changes.specs.declared.Change.{Change}
+use Rattle.qe_view.specs.declared.changes.Change.{Change}
 use Rattle.qe_overlay.specs.Held.{layers_in}
 use Rattle.qe_overlay.specs.Layers.{no_layers}
-use Rattle.qe_overlay.specs.Settled.{Settles, settled_by}
+use Rattle.qe_overlay.specs.Settled.{SettlesBelow, settled_by}
 use Rattle.qe_overlay.proofs.Settling.{settles_taken, nothing_settled, if_same}
 use Rattle.qe_overlay.proofs.overlay.Overlay.changes.Goals as goal
 
@@ -14,7 +14,7 @@ returns-clause-settles c =
     let count = c.min-count.result in
     let most : c.min-count.result < length c.args.self.now.layers → length schema.tables ≤ c.min-count.result = search rules in
     let all : IfOk c.all_changes.result (λ changes. changes ≡ settled_by c.args.schema.now (take c.min-count.result c.args.self.now.layers)) = search rules in
-    if_same c.all_changes.result (settled_by schema (take count kept)) (Settles schema (layers_in kept)) all (settles_taken schema kept count most)
+    if_same c.all_changes.result (settled_by schema (take count kept)) (SettlesBelow schema (layers_in kept)) all (settles_taken schema kept count most)
 
 pub returns-clause-none : goal.returns-clause-none
 returns-clause-none c =

@@ -1,10 +1,10 @@
 use Rattle.std.proofs.Common.{◌≡◌, subst, true}
 use Rattle.std.specs.List.{list_all}
 use Rattle.qe_base.specs.declared.schema.Table.{Table}
-use Rattle.qe_schema.specs.Schemas.{Schema}
-use Rattle.qe_changes.specs.After.{is_wanted}
-use Rattle.qe_tables.specs.Fits.{fit_columns}
-use Rattle.qe_tables.specs.Tables.{table_at}
+use Rattle.qe_base.specs.Schemas.{Schema}
+use Rattle.qe_view.specs.After.{is_wanted}
+use Rattle.qe_schema.specs.Fits.{fit_columns}
+use Rattle.qe_schema.specs.Tables.{table_at}
 use Rattle.qe_overlay.specs.Fits.{LiesOver}
 use Rattle.qe_overlay.specs.Held.{held_in}
 use Rattle.qe_overlay.proofs.Views.{load_gives, read_fits, of_schema}

@@ -1,9 +1,8 @@
-use Rattle.std.proofs.Common.{rules, length, ◌≤◌, ◌<◌, ◌≡◌, arith}
-use Rattle.qe_schema.proofs.Limits.{schema_tables}
+use Rattle.std.proofs.Common.{rules, length, ◌≤◌, ◌<◌, arith}
 use Rattle.qe_schema.proofs.schema.Schema.find.Goals as goal
 
 pub overflow_cast-result : goal.overflow_cast-result
 overflow_cast-result c =
-    let few : length c.self.inside.tables ≤ 256 = schema_tables _ c.self.invariant in
+    let few : length c.self.inside.tables ≤ 256 = c.self.invariant.small.tables in
     let within : c.in-Some.at < length c.self.inside.tables = search rules in
     omega arith

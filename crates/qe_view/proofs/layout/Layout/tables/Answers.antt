@@ -1,5 +1,5 @@
 use Rattle.std.proofs.Common.{rules, length, ◌≤◌, ◌≡◌, arith}
-use Rattle.qe_view.proofs.Accepted.{layout_tables}
+use Rattle.qe_view.proofs.Few.{layout_tables}
 use Rattle.qe_view.proofs.layout.Layout.tables.Goals as goal
 
 pub overflow_cast-result : goal.overflow_cast-result

@@ -1,0 +1,4 @@
+pub mod Joins
+pub mod Known
+pub mod Pairs
+pub mod Sets

@@ -1,0 +1,21 @@
+mod Agreeing
+mod Chains
+mod Columns
+mod Distinct
+mod Filled
+mod Fills
+mod Follows
+mod Identity
+mod Ids
+mod Keys
+mod Leading
+mod Limits
+mod Links
+mod Named
+mod Referred
+mod Relations
+mod Rules
+pub mod Sound
+mod Unbroken
+mod Unique
+mod Whole

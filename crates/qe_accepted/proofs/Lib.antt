@@ -1,6 +1,0 @@
-pub mod Agreeing
-pub mod Chains
-pub mod Ids
-pub mod Named
-pub mod Relations
-pub mod Unique

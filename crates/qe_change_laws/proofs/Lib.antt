@@ -1,9 +1,0 @@
-pub mod Arrows
-pub mod Columns
-pub mod Fitting
-pub mod Keeps
-pub mod Links
-pub mod Renamed
-pub mod Required
-pub mod Steps
-pub mod StillFit

@@ -1,5 +1,0 @@
-use Rattle.qe_change_laws.proofs.StillFit.{changes_keep_alike}
-use Rattle.qe_change_laws.proofs.changes_keep_what_replacements_keep.Goals as goal
-
-pub returns : goal.returns
-returns c = record { tests = changes_keep_alike }

@@ -1,4 +1,0 @@
-pub mod After
-pub mod Answers
-pub mod Calls
-pub mod Right

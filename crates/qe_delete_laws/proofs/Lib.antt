@@ -1,9 +1,0 @@
-pub mod Columns
-pub mod Dangling
-pub mod Doomed
-pub mod Equal
-pub mod Fitting
-pub mod Leaving
-pub mod Lists
-pub mod Nulls
-pub mod Refusals

@@ -1,6 +1,0 @@
-use Rattle.qe_delete_laws.proofs.Dangling.{leave_none_dangling}
-use Rattle.qe_delete_laws.proofs.Refusals.{parents_stay}
-use Rattle.qe_delete_laws.proofs.deletes_leave_none_dangling.Goals as goal
-
-pub returns : goal.returns
-returns c = record { found = leave_none_dangling; stay = parents_stay }

@@ -1,5 +1,0 @@
-use Rattle.qe_delete_laws.proofs.Leaving.{leaves_the_rest}
-use Rattle.qe_delete_laws.proofs.deletes_leave_the_rest.Goals as goal
-
-pub returns : goal.returns
-returns c = record { left = leaves_the_rest }

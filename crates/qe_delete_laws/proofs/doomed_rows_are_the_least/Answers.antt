@@ -1,5 +1,0 @@
-use Rattle.qe_delete_laws.proofs.Doomed.{computes_doomed, computes_the_least, doomed_are_unique}
-use Rattle.qe_delete_laws.proofs.doomed_rows_are_the_least.Goals as goal
-
-pub returns : goal.returns
-returns c = record { computed = computes_doomed; least = computes_the_least; unique = doomed_are_unique }

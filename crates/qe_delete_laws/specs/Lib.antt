@@ -1,2 +1,0 @@
-pub mod Deletes
-pub mod Left

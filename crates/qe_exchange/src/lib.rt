@@ -1,2 +1,0 @@
-//! Definitions: the lines of an input, and what is written for them.
-#![tactic(auto)]

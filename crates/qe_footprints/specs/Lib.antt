@@ -1,3 +1,0 @@
-pub mod Foot
-pub mod Parts
-pub mod Sees

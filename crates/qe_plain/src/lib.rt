@@ -1,2 +1,0 @@
-//! Definitions: what an operation answers and makes of the tables, as the documented rules have it.
-#![tactic(auto)]

@@ -1,4 +1,0 @@
-pub mod Lists
-pub mod PairOrder
-pub mod Puts
-pub mod Values

@@ -1,3 +1,0 @@
-pub mod Orders
-pub mod Pairs
-pub mod Puts

@@ -1,0 +1,13 @@
+pub mod Columns
+pub mod Dangling
+pub mod Doomed
+pub mod Filters
+pub mod Fitting
+pub mod Leaving
+pub mod Lists
+pub mod Nulls
+pub mod Orders
+pub mod PairOrder
+pub mod Places
+pub mod Puts
+pub mod Refusals

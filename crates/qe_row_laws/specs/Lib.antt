@@ -1,0 +1,5 @@
+pub mod Deletes
+pub mod Left
+pub mod Orders
+pub mod Pairs
+pub mod Puts

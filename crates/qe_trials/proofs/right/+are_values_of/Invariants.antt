@@ -1,5 +1,0 @@
-use Rattle.std.proofs.Common.{length}
-use Rattle.qe_trials.proofs.right.+are_values_of.Given as goal
-
-abbrev pub decreases-are_values_of : goal.decreases-are_values_of
-decreases-are_values_of l = length l.numbers.now

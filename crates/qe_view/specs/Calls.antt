@@ -1,0 +1,28 @@
+-- The numbers of the calls that a connector has had.
+use Rattle.std.specs.Prelude.{◌≡◌, ◌⊎◌, ℕ, ◌+◌, ◌-◌, ◌^◌, min}
+
+-- one more, up to what 64 bits hold
+abbrev pub more : ℕ → ℕ
+more count = min (count + 1) (2 ^ 64 - 1)
+
+pub record CallCounts : Type 0 where
+  pub loads : ℕ
+  pub scans : ℕ
+  pub lasts : ℕ
+  pub applies : ℕ
+
+abbrev pub with_load : CallCounts → CallCounts
+with_load calls = record calls { loads = more calls.loads }
+
+abbrev pub with_scan : CallCounts → CallCounts
+with_scan calls = record calls { scans = more calls.scans }
+
+abbrev pub with_last : CallCounts → CallCounts
+with_last calls = record calls { lasts = more calls.lasts }
+
+abbrev pub with_apply : CallCounts → CallCounts
+with_apply calls = record calls { applies = more calls.applies }
+
+-- no call, or one of this kind
+abbrev pub AtMost : (CallCounts → CallCounts) → CallCounts → CallCounts → Type 0
+AtMost one before after = (after ≡ before) ⊎ (after ≡ one before)
