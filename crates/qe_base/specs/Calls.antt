@@ -1,15 +1,12 @@
 -- Calls of one kind, of which some are to fail.
-use Rattle.std.specs.Prelude.{◌≡◌, ◌↔◌, ℕ, ◌+◌, ◌-◌, ◌^◌, min, Bool, true, false, ◌&&◌, ◌==◌, nat_lt, List, [], ◌∷◌, if◌then◌else◌}
+use Rattle.std.specs.Prelude.{◌≡◌, ◌↔◌, ℕ, ◌+◌, ◌-◌, ◌^◌, min, Bool, true, ◌&&◌, ◌==◌, nat_lt, List, if◌then◌else◌}
 use Rattle.std.specs.List.{list_any}
 use Rattle.qe_base.specs.declared.outside.calls.Calls.{Calls}
+use Rattle.qe_base.specs.Causes.{Faults}
 
 -- one more, up to the last value of 64 bits
 abbrev pub one_more : ℕ → ℕ
 one_more count = min (count + 1) (2 ^ 64 - 1)
-
-abbrev pub is_empty : List ℕ → Bool
-is_empty [] = true
-is_empty (number ∷ numbers) = false
 
 -- none was made yet
 abbrev pub no_calls : List ℕ → Calls
@@ -23,9 +20,8 @@ fails_next calls = nat_lt calls.made (2 ^ 64 - 1) && list_any (λ number. number
 abbrev pub may_fail : Calls → Bool
 may_fail calls = list_any (nat_lt calls.made) calls.failing
 
--- no call is to fail
-abbrev pub is_steady : Calls → Bool
-is_steady calls = is_empty calls.failing
+abbrev pub faults_of : Calls → Faults
+faults_of calls = record { count = calls.faults; may_fail = may_fail calls }
 
 abbrev pub with_call : Calls → Calls
 with_call calls = record calls { made = one_more calls.made }

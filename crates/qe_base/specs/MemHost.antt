@@ -1,15 +1,15 @@
--- What a host in memory tells.
-use Rattle.std.specs.Prelude.{◌≡◌, ℕ, Bool, true, ◌&&◌, ◌||◌, List, Option, Some, filter, map, is_none, if◌then◌else◌}
+-- What is seen of a host in memory.
+use Rattle.std.specs.Prelude.{ℕ, Bool, true, ◌||◌, List, Some, filter, map, is_none, if◌then◌else◌}
 use Rattle.qe_base.specs.declared.outside.calls.Calls.{Calls}
 use Rattle.qe_base.specs.declared.outside.mem_source.MemSource.{MemSource}
 use Rattle.qe_base.specs.declared.outside.mem_sink.MemSink.{MemSink}
 use Rattle.qe_base.specs.declared.outside.mem_host.MemHost.{MemHost}
 use Rattle.qe_base.specs.declared.outside.mem_host.HostCall.{HostCall}
 use Rattle.qe_base.specs.declared.outside.mem_host.HostCall.TheVariants.{Fetch}
-use Rattle.qe_base.specs.Calls.{is_steady, fails_next, with_call, with_fault}
-use Rattle.qe_base.specs.MemSource.{source_reads}
-use Rattle.qe_base.specs.MemSink.{sink_writes}
-use Rattle.qe_base.specs.Outside.{Files, file_named}
+use Rattle.qe_base.specs.Calls.{faults_of, fails_next, with_call, with_fault}
+use Rattle.qe_base.specs.MemSource.{source_left}
+use Rattle.qe_base.specs.MemSink.{sink_taken}
+use Rattle.qe_base.specs.Outside.{Files, Seen, file_named}
 
 abbrev pub is_fetch : HostCall → Bool
 is_fetch Fetch = true
@@ -18,9 +18,8 @@ is_fetch Fetch = true
 abbrev pub fetches_of : List (HostCall × ℕ) → List ℕ
 fetches_of calls = map (λ call. call.1) (filter (λ call. is_fetch call.0) calls)
 
--- always told
-abbrev pub host_files : MemHost → Option Files
-host_files host = Some host.files
+abbrev pub host_files : MemHost → Files
+host_files host = host.files
 
 abbrev pub host_source : MemHost → MemSource
 host_source host = host.source
@@ -32,12 +31,15 @@ host_sink host = host.sink
 abbrev pub host_fetches : MemHost → Calls
 host_fetches host = host.fetches
 
-abbrev pub host_faults : MemHost → ℕ
-host_faults host = host.fetches.faults
-
--- no call of its three kinds is to fail
-abbrev pub host_is_steady : MemHost → Bool
-host_is_steady host = is_steady host.fetches && is_steady (source_reads host.source) && is_steady (sink_writes host.sink)
+abbrev pub host_seen : MemHost → Seen
+host_seen host = record {
+  left = source_left host.source;
+  taken = sink_taken host.sink;
+  files = Some host.files;
+  reads = faults_of host.source.reads;
+  writes = faults_of host.sink.writes;
+  fetches = faults_of host.fetches;
+}
 
 -- the next fetch is to fail, or there is no file of this name
 abbrev pub refuses : MemHost → List ℕ → Bool
@@ -46,24 +48,3 @@ refuses host name = fails_next host.fetches || is_none (file_named name host.fil
 -- one fetch more, and one fault more where it was refused
 abbrev pub after_fetch : MemHost → List ℕ → Calls
 after_fetch host name = if refuses host name then with_fault (with_call host.fetches) else with_call host.fetches
-
--- all but the source's bytes and the count of its reads is as it was
-pub record SameButInput (before after : MemHost) : Type 0 where
-  pub files : after.files ≡ before.files
-  pub sink : after.sink ≡ before.sink
-  pub fetches : after.fetches ≡ before.fetches
-  pub failing : (source_reads after.source).failing ≡ (source_reads before.source).failing
-
--- all but the sink's bytes and the count of its writes is as it was
-pub record SameButOutput (before after : MemHost) : Type 0 where
-  pub files : after.files ≡ before.files
-  pub source : after.source ≡ before.source
-  pub fetches : after.fetches ≡ before.fetches
-  pub failing : (sink_writes after.sink).failing ≡ (sink_writes before.sink).failing
-
--- all but the count of fetches is as it was
-pub record SameButFetches (before after : MemHost) : Type 0 where
-  pub files : after.files ≡ before.files
-  pub source : after.source ≡ before.source
-  pub sink : after.sink ≡ before.sink
-  pub failing : after.fetches.failing ≡ before.fetches.failing

@@ -1,8 +1,10 @@
--- What a sink in memory tells.
-use Rattle.std.specs.Prelude.{ℕ, Bool, List, Option, Some, None, if◌then◌else◌}
+-- What is seen of a sink in memory.
+use Rattle.std.specs.Prelude.{ℕ, List, Option, Some, None, if◌then◌else◌}
 use Rattle.qe_base.specs.declared.outside.calls.Calls.{Calls}
 use Rattle.qe_base.specs.declared.outside.mem_sink.MemSink.{MemSink}
-use Rattle.qe_base.specs.Calls.{may_fail}
+use Rattle.qe_base.specs.Calls.{faults_of}
+use Rattle.qe_base.specs.MemSource.{no_faults}
+use Rattle.qe_base.specs.Outside.{Seen}
 
 -- told until a write went past the room
 abbrev pub sink_taken : MemSink → Option (List ℕ)
@@ -16,8 +18,5 @@ sink_room sink = sink.room
 abbrev pub sink_writes : MemSink → Calls
 sink_writes sink = sink.writes
 
-abbrev pub sink_faults : MemSink → ℕ
-sink_faults sink = sink.writes.faults
-
-abbrev pub sink_may_fail : MemSink → Bool
-sink_may_fail sink = may_fail sink.writes
+abbrev pub sink_seen : MemSink → Seen
+sink_seen sink = record { left = None; taken = sink_taken sink; files = None; reads = no_faults; writes = faults_of sink.writes; fetches = no_faults }

@@ -1,8 +1,14 @@
--- What a source in memory tells.
-use Rattle.std.specs.Prelude.{ℕ, Bool, List, Option, Some, drop}
+-- What is seen of a source in memory.
+use Rattle.std.specs.Prelude.{ℕ, false, List, Option, Some, None, drop}
 use Rattle.qe_base.specs.declared.outside.calls.Calls.{Calls}
 use Rattle.qe_base.specs.declared.outside.mem_source.MemSource.{MemSource}
-use Rattle.qe_base.specs.Calls.{may_fail}
+use Rattle.qe_base.specs.Calls.{faults_of}
+use Rattle.qe_base.specs.Causes.{Faults}
+use Rattle.qe_base.specs.Outside.{Seen}
+
+-- of calls that it has none of, none may fail
+abbrev pub no_faults : Faults
+no_faults = record { count = 0; may_fail = false }
 
 -- always told
 abbrev pub source_left : MemSource → Option (List ℕ)
@@ -12,8 +18,5 @@ source_left source = Some (drop source.given source.bytes)
 abbrev pub source_reads : MemSource → Calls
 source_reads source = source.reads
 
-abbrev pub source_faults : MemSource → ℕ
-source_faults source = source.reads.faults
-
-abbrev pub source_may_fail : MemSource → Bool
-source_may_fail source = may_fail source.reads
+abbrev pub source_seen : MemSource → Seen
+source_seen source = record { left = source_left source; taken = None; files = None; reads = faults_of source.reads; writes = no_faults; fetches = no_faults }

@@ -1,5 +1,5 @@
 -- The texts of replies: compact JSON, each object's members in the order of their names' bytes.
-use Rattle.std.specs.Prelude.{ℕ, List, [], ◌∷◌, Option, Some, None, map, slice_get, codes}
+use Rattle.std.specs.Prelude.{ℕ, ℤ, List, [], ◌∷◌, Option, Some, None, map, slice_get, codes}
 use Rattle.serde_json.specs.Data.{Data, null, number, string, array, object, Members, no_members, member, put, unsigned}
 use Rattle.serde_json.specs.Find.{of_integer}
 use Rattle.serde_json.specs.View.{items_of}
@@ -108,13 +108,51 @@ fault_data schema index fault.Memory = memory_data
 abbrev pub unseen_data : ℕ → ℕ → Data
 unseen_data asked place = error_data (codes "unseen") (codes "E2") (member (codes "asked") (number (unsigned asked)) (member (codes "place") (number (unsigned place)) no_members))
 
+-- an answer of an operation
+abbrev pub data_of : Answer → Data
+data_of found = single (codes "data") (answer_data found)
+
+-- the answers of a batch
+abbrev pub batch_data : List Answer → Data
+batch_data found = single (codes "batchResult") (array (items_of (map data_of found)))
+
+-- a transaction that isn't there, by its number and that of the next one
+abbrev pub no_transaction_data : List ℕ → ℕ → ℕ → Data
+no_transaction_data cause asked next = error_data cause (codes "P2028") (member (codes "asked") (number (unsigned asked)) (member (codes "next") (number (unsigned next)) no_members))
+
+abbrev pub expired_data : ℤ → ℤ → Data
+expired_data deadline moment =
+    error_data (codes "expired") (codes "P2028") (member (codes "deadline") (number (of_integer deadline)) (member (codes "moment") (number (of_integer moment)) no_members))
+
+-- how many transactions may be open
+abbrev pub full_data : Data
+full_data = error_data (codes "full") (codes "P2028") (member (codes "limit") (number (unsigned 64)) no_members)
+
+abbrev pub conflict_data : Table → ℕ → ℕ → Data
+conflict_data table start now =
+    error_data (codes "conflict") (codes "P2034") (member (codes "now") (number (unsigned now)) (member (codes "start") (number (unsigned start)) (member (codes "table") (string table.name) no_members)))
+
+-- the JSON of a reply; a greeting has none
+abbrev pub reply_data : Schema → Reply → Data
+reply_data schema reply.Hello = null
+reply_data schema (reply.Answer found) = data_of found
+reply_data schema (reply.Answers found) = batch_data found
+reply_data schema (reply.Started session) = single (codes "id") (number (unsigned session))
+reply_data schema (reply.Committed session) = single (codes "committed") (number (unsigned session))
+reply_data schema (reply.RolledBack session) = single (codes "rolledBack") (number (unsigned session))
+reply_data schema (reply.Refused index broken) = fault_data schema index broken
+reply_data schema (reply.Unknown asked next) = no_transaction_data (codes "unknown") asked next
+reply_data schema (reply.Closed asked next) = no_transaction_data (codes "closed") asked next
+reply_data schema (reply.Expired deadline moment) = expired_data deadline moment
+reply_data schema reply.Full = full_data
+reply_data schema (reply.Conflict table start now) = conflict_data (table_at schema table.0) start now
+reply_data schema (reply.Unseen asked place) = unseen_data asked place
+reply_data schema reply.Memory = memory_data
+
 -- the text of a reply; a greeting has none
 abbrev pub text_of : Schema → Reply → List ℕ
 text_of schema reply.Hello = []
-text_of schema (reply.Answer found) = compact_text (single (codes "data") (answer_data found))
-text_of schema (reply.Refused index broken) = compact_text (fault_data schema index broken)
-text_of schema (reply.Unseen asked place) = compact_text (unseen_data asked place)
-text_of schema reply.Memory = compact_text memory_data
+text_of schema other = compact_text (reply_data schema other)
 
 -- the texts of a line that isn't JSON, that isn't carried out yet, and that memory was short for
 abbrev pub not_json_text : List ℕ

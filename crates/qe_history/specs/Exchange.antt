@@ -5,11 +5,11 @@ use Rattle.qe_base.specs.declared.write.Op.{Op}
 use Rattle.qe_base.specs.Schemas.{Schema}
 use Rattle.qe_base.specs.declared.event.What.{What}
 use Rattle.qe_base.specs.declared.event.What.TheVariants as what
+use Rattle.qe_base.specs.declared.event.Event.{Event}
 use Rattle.qe_base.specs.declared.event.Reply.{Reply}
 use Rattle.qe_base.specs.declared.event.Reply.TheVariants as reply
 use Rattle.qe_base.specs.declared.event.Entry.{Entry}
-use Rattle.qe_history.specs.State.{State}
-use Rattle.qe_history.specs.History.{IsLegal}
+use Rattle.qe_history.specs.History.{entry}
 use Rattle.qe_forms.specs.Request.{Asked, not_json, unbuilt, asks, asked_of}
 use Rattle.qe_forms.specs.Reply.{text_of, not_json_text, unbuilt_text, memory_text}
 
@@ -39,9 +39,12 @@ ComeOf schema (line ∷ lines) (outcome ∷ outcomes) = ComesOf (asked_of schema
 abbrev pub outside : Outside
 outside = record { moment = pos 0; seed = 0 }
 
+abbrev pub event_of : What → Event
+event_of asked = record { seen = None; outside = outside; what = asked }
+
 -- the caller is the one that greeted at place 0
 abbrev pub entry_of : What → Reply → Entry
-entry_of what reply = record { caller = 0; event = record { seen = None; outside = outside; what = what }; reply = reply }
+entry_of asked reply = entry 0 (event_of asked) reply
 
 abbrev pub entered_of : LineOutcome → List Entry
 entered_of (told text) = []
@@ -55,14 +58,10 @@ abbrev pub outcome_text : Schema → LineOutcome → List ℕ
 outcome_text schema (told text) = text
 outcome_text schema (entered op reply) = text_of schema reply
 
--- the text of each outcome, and a newline after it
-abbrev pub bytes_of : Schema → List LineOutcome → List ℕ
-bytes_of schema outcomes = flat_map (λ outcome. outcome_text schema outcome ++ 10 ∷ []) outcomes
+-- the text of an outcome, and a newline after it
+abbrev pub outcome_line : Schema → LineOutcome → List ℕ
+outcome_line schema outcome = outcome_text schema outcome ++ 10 ∷ []
 
--- These bytes are written for these lines: their outcomes make one legal history from the opening,
--- which leaves the state after it.
-pub record Exchanges (schema : Schema) (opening : State) (lines : List (List ℕ)) (bytes : List ℕ) (after : State) : Type 0 where
-  pub outcomes : List LineOutcome
-  pub come : ComeOf schema lines outcomes
-  pub written : bytes ≡ bytes_of schema outcomes
-  pub legal : IsLegal opening (history_of outcomes) after
+-- the lines of the outcomes, one after another
+abbrev pub bytes_of : Schema → List LineOutcome → List ℕ
+bytes_of schema outcomes = flat_map (outcome_line schema) outcomes

@@ -1,25 +1,32 @@
 -- The history of all entries, and when it is legal.
-use Rattle.std.specs.Prelude.{◌≡◌, ℕ, ◌+◌, ◌≤◌, List, [], ◌∷◌, slice_get, IfSome, IsSomeAnd}
+use Rattle.std.specs.Prelude.{◌≡◌, ◌⊎◌, ℕ, List, [], ◌∷◌, ◌++◌, length, slice_get, Some}
 use Rattle.qe_base.specs.declared.event.What.{What}
 use Rattle.qe_base.specs.declared.event.What.TheVariants as what
+use Rattle.qe_base.specs.declared.event.Event.{Event}
+use Rattle.qe_base.specs.declared.event.Reply.{Reply}
 use Rattle.qe_base.specs.declared.event.Entry.{Entry}
-use Rattle.qe_history.specs.State.{State, Steps}
+use Rattle.qe_history.specs.State.{State, Step}
 
--- the entries, from this place on, lead from one state to the other
-abbrev pub StepsThrough : State → ℕ → List Entry → State → Type 0
-StepsThrough before place [] after = after ≡ before
-StepsThrough before place (entry ∷ entries) after = (next : State) × Steps before place entry.event entry.reply next × StepsThrough next (place + 1) entries after
+abbrev pub IsGreeting : What → Type 0
+IsGreeting what.Hello = Unit {0}
+IsGreeting _ = ⊥
 
-abbrev pub Greets : What → Type 0
-Greets what.Hello = Unit {0}
-Greets (what.Single op) = ⊥
+-- the caller of this number greeted at the place that is its number
+pub record HasGreeted (history : List Entry) (caller : ℕ) : Type 0 where
+  pub greeting : Entry
+  pub at : slice_get history caller ≡ Some greeting
+  pub own : greeting.caller ≡ caller
+  pub greets : IsGreeting greeting.event.what
 
--- each entry's caller greeted at the place that is its number, no later than the entry
-abbrev pub HaveGreeted : List Entry → Type 0
-HaveGreeted history =
-    (place : ℕ) → IfSome (slice_get history place) (λ entry. (entry.caller ≤ place) × IsSomeAnd (slice_get history entry.caller) (λ first. (first.caller ≡ entry.caller) × Greets first.event.what))
+-- who may call next: one that has greeted, or by a greeting a new one
+abbrev pub MayCall : List Entry → ℕ → What → Type 0
+MayCall history caller asked = HasGreeted history caller ⊎ ((caller ≡ length history) × IsGreeting asked)
 
--- The entries, from the first on, are one legal history, which leaves this state.
-pub record IsLegal (opening : State) (history : List Entry) (after : State) : Type 0 where
-  pub leads : StepsThrough opening 0 history after
-  pub greeted : HaveGreeted history
+abbrev pub entry : ℕ → Event → Reply → Entry
+entry caller event reply = record { caller = caller; event = event; reply = reply }
+
+-- The entries, each allowed after those before it, are one legal history from the opening, which leaves this state.
+pub data Legal (opening : State) : List Entry → State → Type 0 where
+  Opened : Legal opening [] opening
+  Entered : {history : List Entry} {before after : State} {caller : ℕ} {event : Event} {reply : Reply} → Legal opening history before → MayCall history caller event.what
+      → Step before (length history) event reply after → Legal opening (history ++ entry caller event reply ∷ []) after

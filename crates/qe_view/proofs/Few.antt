@@ -1,7 +1,6 @@
 -- What the layout of a sound schema has at most.
 use Rattle.std.proofs.Common.{◌≡◌, ◌≤◌, length, ap, arith}
-use Rattle.qe_base.specs.Schemas.{Schema}
-use Rattle.qe_view.specs.Layouts.{Layout, layout_of, IsLayout}
+use Rattle.qe_view.specs.Layouts.{Layout, IsLayout}
 
 pub layout_tables : (layout : Layout) → IsLayout layout → length layout.tables ≤ 256
 layout_tables layout (schema, is, value) =

@@ -1,12 +1,16 @@
 -- What the calls of a connector or of a view answer, and when they are refused.
-use Rattle.std.specs.Prelude.{◌≡◌, ◌<◌, ℕ, ℤ, pos, int_lt, Bool, true, false, List, length, Option, Result, IfOk, IsErrOf, IsErrAnd, IfSome}
+use Rattle.std.specs.Prelude.{◌≡◌, ◌<◌, ℕ, ℤ, pos, int_lt, Bool, true, false, is_some, List, length, Option, option_map, Result, OnOk, OnErr, IfOk, IfErr, IsErrOf, IsErrAnd, IfSome}
 use Rattle.std.specs.List.{list_all}
-use Rattle.qe_base.specs.Causes.{HasCause}
+use Rattle.qe_base.specs.Causes.{CountsFaults, HasCause}
 use Rattle.qe_base.specs.declared.value.Rows.{Rows}
 use Rattle.qe_base.specs.declared.value.Row.{Row}
 use Rattle.qe_base.specs.Schemas.{Schema}
 use Rattle.qe_schema.specs.Fits.{fit_columns}
 use Rattle.qe_schema.specs.Tables.{Tables, table_at}
+use Rattle.qe_view.specs.After.{after_all}
+use Rattle.qe_view.specs.Attached.{Connected, FitLayout, OfShapes}
+use Rattle.qe_view.specs.Calls.{CallCounts, with_apply}
+use Rattle.qe_view.specs.declared.changes.Change.{Change}
 use Rattle.qe_view.specs.declared.changes.ConnFault.{ConnFault}
 use Rattle.qe_view.specs.declared.changes.ConnFault.TheVariants.{Failed, Misfit, Memory}
 
@@ -36,9 +40,25 @@ NamesColumn schema Memory = Unit {0}
 abbrev pub IsMisfit : {T : Type 0} → Result T ConnFault → Type 0
 IsMisfit result = IsErrAnd result (λ fault. is_misfit fault ≡ true)
 
--- `Failed` comes only where the count of faults rose, and not from what can't fail; `Misfit` only where that
--- of misfits rose, and not from what tells. No other answer raises the count of misfits.
-pub record HasCauses {T : Type 0} (may_fail may_misfit : Bool) (faults_before faults_now misfits_before misfits_now : ℕ) (result : Result T ConnFault) : Type 0 where
-  pub failed : HasCause may_fail faults_before faults_now (IsErrOf result Failed)
-  pub misfit : HasCause may_misfit misfits_before misfits_now (IsMisfit result)
-  pub only : (IsMisfit result → ⊥) → misfits_now ≡ misfits_before
+-- `Failed` comes just where the count of faults rose, and not from what can't fail; `Misfit` just where that of
+-- misfits rose, and not from what tells its tables.
+pub record HasCauses {T : Type 0} (before after : Connected) (result : Result T ConnFault) : Type 0 where
+  pub failed : HasCause before.faults after.faults (IsErrOf result Failed)
+  pub misfit : CountsFaults before.misfits after.misfits (IsMisfit result)
+  pub tells : is_some before.told ≡ true → IsMisfit result → ⊥
+
+-- one call was made, by which nothing but counts changed
+pub record OnlyAsked {T : Type 0} (one : CallCounts → CallCounts) (before after : Connected) (result : Result T ConnFault) : Type 0 where
+  pub causes : HasCauses before after result
+  pub column : OfShapes before (λ shapes. IfErr result (NamesColumn shapes))
+  pub fits : FitLayout after
+  pub others : after ≡ record before { faults = after.faults; misfits = after.misfits; calls = one before.calls }
+
+-- all changes were made to the told tables, or after a refusal none; nothing else but counts changed
+pub record Applies (changes : List Change) (before after : Connected) (result : Result (Unit {0}) ConnFault) : Type 0 where
+  pub ok : OnOk result (OfShapes before (λ shapes. after.told ≡ option_map (after_all shapes changes) before.told))
+  pub err : OnErr result (after.told ≡ before.told)
+  pub cause : HasCause before.faults after.faults (IsErrOf result Failed)
+  pub misfit : IsMisfit result → ⊥
+  pub fits : FitLayout after
+  pub others : after ≡ record before { told = after.told; faults = after.faults; calls = with_apply before.calls }

@@ -1,5 +1,6 @@
--- What a connector keeps before it is attached, and what it is attached with.
-use Rattle.std.specs.Prelude.{◌≡◌, ℕ, List, Option, Some, None, option_map, Result, OnOk, OnErr, IfErr, IfSome, IsSomeAnd, [], true}
+-- What is seen of a connector, and what attaching it does.
+use Rattle.std.specs.Prelude.{◌≡◌, ℕ, List, Option, Some, None, option_map, Result, OnOk, OnErr, IfErr, IsErrOf, IfSome, IsSomeAnd, [], true}
+use Rattle.qe_base.specs.Causes.{Faults, HasCause}
 use Rattle.qe_base.specs.Schemas.{Schema}
 use Rattle.qe_base.specs.declared.value.Row.{Row}
 use Rattle.qe_schema.specs.Fits.{FitsSchema}
@@ -7,6 +8,7 @@ use Rattle.qe_schema.specs.Tables.{Tables, no_rows}
 use Rattle.qe_view.specs.declared.changes.Change.{Change}
 use Rattle.qe_view.specs.declared.changes.AttachFault.{AttachFault}
 use Rattle.qe_view.specs.declared.changes.AttachFault.TheVariants as fault
+use Rattle.qe_view.specs.Calls.{CallCounts}
 use Rattle.qe_view.specs.Right.{has_table, can_load, are_right, ChangesLead}
 use Rattle.qe_view.specs.Layouts.{Layout}
 use Rattle.qe_view.specs.LayoutText.{layout_text}
@@ -16,13 +18,36 @@ pub record Kept : Type 0 where
   pub layout : List ℕ
   pub tables : Tables
 
+-- the place that was opened, and the layout that its tables have
+pub record Attached : Type 0 where
+  pub place : List ℕ
+  pub layout : Layout
+
+-- All that is seen of a connector: what it keeps before it is attached, what it is attached to, the tables that it
+-- keeps from then on, both where it tells; its faults, how often a kept row didn't fit, and the calls made of it.
+pub record Connected : Type 0 where
+  pub keeps : Option (Option Kept)
+  pub attached : Option Attached
+  pub told : Option Tables
+  pub faults : Faults
+  pub misfits : ℕ
+  pub calls : CallCounts
+
 -- the schema of a layout's tables and enums, as far as tables fit it
 abbrev pub shapes_of : Layout → Schema
 shapes_of layout = record { tables = layout.tables; relations = []; links = []; choices = layout.choices }
 
--- the tables fit the layout, where they are told
-abbrev pub FitLayout : Option Layout → Option Tables → Type 0
-FitLayout attached told = IfSome attached (λ layout. IfSome told (FitsSchema (shapes_of layout)))
+-- what holds of the shapes of the attached layout
+abbrev pub OfShapes : Connected → (Schema → Type 0) → Type 0
+OfShapes seen P = IfSome seen.attached (λ attached. P (shapes_of attached.layout))
+
+-- a layout is attached, of whose shapes this holds
+abbrev pub HasShapes : Connected → (Schema → Type 0) → Type 0
+HasShapes seen P = IsSomeAnd seen.attached (λ attached. P (shapes_of attached.layout))
+
+-- the told tables fit the layout
+abbrev pub FitLayout : Connected → Type 0
+FitLayout seen = OfShapes seen (λ shapes. IfSome seen.told (FitsSchema shapes))
 
 -- the tables that are kept, none where nothing is
 abbrev pub kept_tables : Option Kept → Tables
@@ -44,26 +69,26 @@ Differs keeps layout fault.Failed = Unit {0}
 Differs keeps layout (fault.Layout kept wanted) = (wanted ≡ layout_text layout) × KeepsOther keeps kept wanted
 Differs keeps layout fault.Memory = Unit {0}
 
--- It is attached with the layout, and tells the tables that were kept where it told them. After a refusal it
--- isn't attached, and keeps what it kept.
-pub record Attaches (keeps_before keeps_now : Option (Option Kept)) (attached : Option Layout) (told : Option Tables) (layout : Layout) (result : Result (Unit {0}) AttachFault) : Type 0 where
-  pub opened : OnOk result (attached ≡ Some layout)
-  pub tables : OnOk result (told ≡ option_map kept_tables keeps_before)
-  pub same : OnOk result (IfSome keeps_before (λ kept. HasText kept (layout_text layout)))
-  pub other : IfErr result (Differs keeps_before layout)
-  pub refused : OnErr result ((attached ≡ None) × (keeps_now ≡ keeps_before))
+-- It is attached at the place with the layout, and tells the tables that were kept where it told them. After a
+-- refusal it isn't attached, and keeps what it kept.
+pub record Attaches (place : List ℕ) (layout : Layout) (before after : Connected) (result : Result (Unit {0}) AttachFault) : Type 0 where
+  pub opened : OnOk result (after.attached ≡ Some (record { place = place; layout = layout }))
+  pub tables : OnOk result (after.told ≡ option_map kept_tables before.keeps)
+  pub same : OnOk result (IfSome before.keeps (λ kept. HasText kept (layout_text layout)))
+  pub fits : FitLayout after
+  pub other : IfErr result (Differs before.keeps layout)
+  pub refused : OnErr result ((after.attached ≡ None) × (after.keeps ≡ before.keeps))
+  pub cause : HasCause before.faults after.faults (IsErrOf result fault.Failed)
+  pub misfits : after.misfits ≡ before.misfits
+  pub calls : after.calls ≡ before.calls
 
 -- attached with a layout that has this table
-abbrev pub HasTable : Option Layout → ℕ → Type 0
-HasTable attached table = IsSomeAnd attached (λ layout. has_table (shapes_of layout) table ≡ true)
+abbrev pub HasTable : Connected → ℕ → Type 0
+HasTable seen table = HasShapes seen (λ shapes. has_table shapes table ≡ true)
 
-abbrev pub CanLoad : Option Layout → ℕ → List ℕ → List Row → Type 0
-CanLoad attached table columns keys = IsSomeAnd attached (λ layout. can_load (shapes_of layout) table columns keys ≡ true)
+abbrev pub CanLoad : Connected → ℕ → List ℕ → List Row → Type 0
+CanLoad seen table columns keys = HasShapes seen (λ shapes. can_load shapes table columns keys ≡ true)
 
 -- changes of the layout, which lead from the told tables to others that fit it
-abbrev pub CanApply : Option Layout → Option Tables → List Change → Type 0
-CanApply attached told changes = IsSomeAnd attached (λ layout. (are_right (shapes_of layout) changes ≡ true) × IfSome told (ChangesLead (shapes_of layout) changes))
-
--- what holds of the shapes of the attached layout
-abbrev pub OfShapes : Option Layout → (Schema → Type 0) → Type 0
-OfShapes attached P = IfSome attached (λ layout. P (shapes_of layout))
+abbrev pub CanApply : Connected → List Change → Type 0
+CanApply seen changes = HasShapes seen (λ shapes. (are_right shapes changes ≡ true) × IfSome seen.told (ChangesLead shapes changes))

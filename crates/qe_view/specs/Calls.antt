@@ -1,5 +1,5 @@
 -- The numbers of the calls that a connector has had.
-use Rattle.std.specs.Prelude.{◌≡◌, ◌⊎◌, ℕ, ◌+◌, ◌-◌, ◌^◌, min}
+use Rattle.std.specs.Prelude.{◌≡◌, ◌⊎◌, ℕ, ◌+◌, ◌-◌, ◌^◌, ◌≤◌, min}
 
 -- one more, up to what 64 bits hold
 abbrev pub more : ℕ → ℕ
@@ -26,3 +26,13 @@ with_apply calls = record calls { applies = more calls.applies }
 -- no call, or one of this kind
 abbrev pub AtMost : (CallCounts → CallCounts) → CallCounts → CallCounts → Type 0
 AtMost one before after = (after ≡ before) ⊎ (after ≡ one before)
+
+-- no more calls of each kind than these
+pub record MakesAtMost (most before after : CallCounts) : Type 0 where
+  pub loads : after.loads ≤ before.loads + most.loads
+  pub scans : after.scans ≤ before.scans + most.scans
+  pub lasts : after.lasts ≤ before.lasts + most.lasts
+  pub applies : after.applies ≤ before.applies + most.applies
+
+abbrev pub no_calls : CallCounts
+no_calls = record { loads = 0; scans = 0; lasts = 0; applies = 0 }

@@ -1,5 +1,5 @@
 -- The statements that make a database of a schema, one on a line.
-use Rattle.std.specs.Prelude.{ℕ, zero, suc, List, [], ◌∷◌, ◌++◌, Bool, true, false, map, slice_get, option_map, unwrap_or, codes, decimal}
+use Rattle.std.specs.Prelude.{ℕ, zero, suc, List, [], ◌++◌, Bool, true, false, map, slice_get, option_map, unwrap_or, codes, decimal}
 use Rattle.std.specs.List.{flat_map, enumerate_from, join_by}
 use Rattle.qe_base.specs.declared.value.Kind.{Kind}
 use Rattle.qe_base.specs.declared.value.Kind.TheVariants as kind

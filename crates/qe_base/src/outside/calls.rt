@@ -1,5 +1,5 @@
 //! Calls that are counted, of which some are to fail.
-ghost use Rattle.std.specs.Prelude.{◌≡◌, ◌≤◌, ◌↔◌, IsErr, true, false};
+ghost use Rattle.std.specs.Prelude.{◌≡◌, ◌≤◌, IsErr};
 ghost use Rattle.qe_base.specs.Causes.{HasCause};
 
 use crate::outside::Failed;
@@ -16,7 +16,7 @@ pub struct Calls {
 }
 
 impl Calls {
-    ghost use Rattle.qe_base.specs.Calls.{MakesCall, no_calls, may_fail, with_fault};
+    ghost use Rattle.qe_base.specs.Calls.{MakesCall, no_calls, faults_of, with_fault};
 
     /// No call was made yet, and these are to fail.
     pub fn new(failing: Items<u64>) -> Calls
@@ -33,8 +33,7 @@ impl Calls {
     #[tactic(auto, using(crate::proofs::LaterCalls::listed_is_later, crate::proofs::LaterCalls::none_later))]
     pub fn begin(&mut self) -> Result<(), Failed>
         ensures call { MakesCall self.old self.new (IsErr result) }
-        ensures cause { HasCause (may_fail self.old) self.old.faults self.new.faults (IsErr result) }
-        ensures sure { may_fail self.old ≡ false → may_fail self.new ≡ false }
+        ensures cause { HasCause (faults_of self.old) (faults_of self.new) (IsErr result) }
     {
         if self.made == u64::MAX {
             return Ok(());

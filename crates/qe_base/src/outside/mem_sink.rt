@@ -1,10 +1,8 @@
 //! A place in memory to write to.
-ghost use Rattle.std.specs.Prelude.{◌≡◌, ◌+◌, ◌≤◌, ◌↔◌, [], Some, IfOk, IfSome, IsErr, IsSome, IsTrue, true, false, length, nat_lt, vec_capacity};
-ghost use Rattle.std.specs.List.{list_any};
-ghost use Rattle.qe_base.specs.Causes.{HasCause};
+ghost use Rattle.std.specs.Prelude.{◌≡◌, ◌+◌, ◌≤◌, ◌↔◌, [], Some, IfOk, IfSome, IsErr, IsSome, IsTrue, length, vec_capacity};
 
 use crate::outside::calls::Calls;
-use crate::outside::{Failed, Sink};
+use crate::outside::{Failed, Outer, Sink};
 use qe_text::Memory;
 use sqlite_items::Items;
 use std::alloc::Global;
@@ -22,15 +20,13 @@ pub struct MemSink {
 
 impl MemSink {
     ghost use Rattle.qe_base.specs.Calls.{no_calls};
-    ghost use Rattle.qe_base.specs.MemSink.{sink_taken, sink_room, sink_writes, sink_faults, sink_may_fail};
+    ghost use Rattle.qe_base.specs.MemSink.{sink_taken, sink_room, sink_writes};
 
     /// A sink with room for so many bytes. The numbers of the writes that are to fail count from 1.
     pub fn new(alloc: Global, room: u64, fail: &[u64]) -> Result<MemSink, Memory>
         ensures taken { IfOk result (λ sink. sink_taken sink ≡ Some []) }
         ensures room { IfOk result (λ sink. sink_room sink ≡ room) }
         ensures writes { IfOk result (λ sink. sink_writes sink ≡ no_calls fail.now) }
-        ensures faults { IfOk result (λ sink. sink_faults sink ≡ 0) }
-        ensures may_fail { IfOk result (λ sink. sink_may_fail sink ≡ list_any (nat_lt 0) fail.now) }
     {
         let room = room as usize;
         let taken = Vec::with_capacity(alloc, room)?;
@@ -58,28 +54,24 @@ impl MemSink {
     }
 }
 
+impl Outer for MemSink {
+    ghost use Rattle.qe_base.specs.MemSink.{sink_seen};
+
+    ghost seen = { sink_seen };
+}
+
 impl Sink for MemSink {
     ghost use Rattle.qe_base.specs.Outside.{Writes};
     ghost use Rattle.qe_base.specs.Calls.{MakesCall};
-    ghost use Rattle.qe_base.specs.MemSink.{sink_taken, sink_room, sink_writes, sink_faults, sink_may_fail};
-
-    ghost taken = { sink_taken };
-
-    ghost write_faults = { sink_faults };
-
-    ghost write_may_fail = { sink_may_fail };
-
-    ghost same_but_output = { λ _ _. Unit {0} };
+    ghost use Rattle.qe_base.specs.MemSink.{sink_taken, sink_room, sink_writes, sink_seen};
 
     /// Takes the whole piece. One that goes past the room isn't kept, and no later one.
     fn write(&mut self, piece: &[u8]) -> Result<usize, Failed>
-        ensures bytes { Writes (sink_taken self.old) (sink_taken self.new) piece.now result }
+        ensures writes { Writes (sink_seen self.old) (sink_seen self.new) piece.now result }
         ensures whole { IfOk result (λ count. count ≡ length piece.now) }
         ensures tells { IfOk result (λ _. IfSome (sink_taken self.old) (λ taken. IsSome (sink_taken self.new) ↔ (length taken + length piece.now ≤ sink_room self.old))) }
         ensures room { sink_room self.new ≡ sink_room self.old }
         ensures call { MakesCall (sink_writes self.old) (sink_writes self.new) (IsErr result) }
-        ensures cause { HasCause (sink_may_fail self.old) (sink_faults self.old) (sink_faults self.new) (IsErr result) }
-        ensures sure { sink_may_fail self.old ≡ false → sink_may_fail self.new ≡ false }
     {
         self.writes.begin()?;
         self.tells = self.tells

@@ -1,10 +1,8 @@
 //! Bytes in memory to read from.
-ghost use Rattle.std.specs.Prelude.{◌≡◌, ◌+◌, ◌^◌, ◌<◌, ◌≤◌, ◌↔◌, Some, IfOk, IsErr, IfSome, true, false, min, length, nat_lt, take};
-ghost use Rattle.std.specs.List.{list_any};
-ghost use Rattle.qe_base.specs.Causes.{HasCause};
+ghost use Rattle.std.specs.Prelude.{◌≡◌, ◌+◌, ◌^◌, ◌<◌, ◌≤◌, Some, IfOk, IsErr, IfSome, min, length, take};
 
 use crate::outside::calls::Calls;
-use crate::outside::{Failed, Source};
+use crate::outside::{Failed, Outer, Source};
 use qe_text::{Bytes, Memory};
 use sqlite_items::Items;
 use std::alloc::Global;
@@ -30,14 +28,12 @@ pub struct MemSource {
 
 impl MemSource {
     ghost use Rattle.qe_base.specs.Calls.{no_calls};
-    ghost use Rattle.qe_base.specs.MemSource.{source_left, source_reads, source_faults, source_may_fail};
+    ghost use Rattle.qe_base.specs.MemSource.{source_left, source_reads};
 
     /// A source of these bytes. The numbers of the reads that are to fail count from 1.
     pub fn new(alloc: Global, bytes: &[u8], fail: &[u64]) -> Result<MemSource, Memory>
         ensures left { IfOk result (λ source. source_left source ≡ Some bytes.now) }
         ensures reads { IfOk result (λ source. source_reads source ≡ no_calls fail.now) }
-        ensures faults { IfOk result (λ source. source_faults source ≡ 0) }
-        ensures may_fail { IfOk result (λ source. source_may_fail source ≡ list_any (nat_lt 0) fail.now) }
     {
         let bytes = Bytes::from_slice(alloc, bytes)?;
         let failing = Items::from_slice(alloc, fail)?;
@@ -57,26 +53,22 @@ impl MemSource {
     }
 }
 
+impl Outer for MemSource {
+    ghost use Rattle.qe_base.specs.MemSource.{source_seen};
+
+    ghost seen = { source_seen };
+}
+
 impl Source for MemSource {
     ghost use Rattle.qe_base.specs.Outside.{Reads};
     ghost use Rattle.qe_base.specs.Calls.{MakesCall};
-    ghost use Rattle.qe_base.specs.MemSource.{source_left, source_reads, source_faults, source_may_fail};
-
-    ghost left = { source_left };
-
-    ghost read_faults = { source_faults };
-
-    ghost read_may_fail = { source_may_fail };
-
-    ghost same_but_input = { λ _ _. Unit {0} };
+    ghost use Rattle.qe_base.specs.MemSource.{source_left, source_reads, source_seen};
 
     /// Gives as many bytes as fit.
     fn read(&mut self, into: &mut [u8]) -> Result<usize, Failed>
-        ensures bytes { Reads (source_left self.old) (source_left self.new) into.new result }
+        ensures reads { Reads (source_seen self.old) (source_seen self.new) into.new result }
         ensures full { IfOk result (λ count. IfSome (source_left self.old) (λ left. count ≡ min (length left) (length into.new))) }
         ensures call { MakesCall (source_reads self.old) (source_reads self.new) (IsErr result) }
-        ensures cause { HasCause (source_may_fail self.old) (source_faults self.old) (source_faults self.new) (IsErr result) }
-        ensures sure { source_may_fail self.old ≡ false → source_may_fail self.new ≡ false }
     {
         self.reads.begin()?;
         let count = fill_front(into, self.left());

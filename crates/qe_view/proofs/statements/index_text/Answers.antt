@@ -1,4 +1,4 @@
-use Rattle.std.proofs.Common.{◌≡◌, List, ℕ, ap, ◌∙◌}
+use Rattle.std.proofs.Common.{ap, ◌∙◌}
 use Rattle.std.specs.Prelude.{codes}
 use Rattle.qe_view.specs.LayoutText.{quoted, names_text, index_name, index_text}
 use Rattle.qe_view.proofs.Pieces.{between_three}

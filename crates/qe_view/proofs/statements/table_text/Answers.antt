@@ -1,4 +1,4 @@
-use Rattle.std.proofs.Common.{◌≡◌, map, ap, ◌∙◌}
+use Rattle.std.proofs.Common.{map, ap, ◌∙◌}
 use Rattle.std.specs.Prelude.{codes, string_bytes}
 use Rattle.qe_view.specs.LayoutText.{quoted, listed, table_text}
 use Rattle.qe_view.proofs.Pieces.{between_two}

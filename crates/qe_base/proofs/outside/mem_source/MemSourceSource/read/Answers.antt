@@ -13,10 +13,12 @@ ended : (count given : ℕ) (bytes left piece : List ℕ) → Some (drop given b
 ended count given bytes [] piece is_left is more = (λ _. search rules, λ _. grind arith)
 ended count given bytes (byte ∷ left) piece is_left is more = (λ none. grind arith, λ none. grind arith)
 
-pub returns-clause-bytes : goal.returns-clause-bytes
-returns-clause-bytes c = record {
+pub returns-clause-reads : goal.returns-clause-reads
+returns-clause-reads c = record {
   within = grind (arith, common_steps);
   bytes = moved c.args.self.now.given _ c.args.self.now.bytes _ _ c.left.ensures.left c.fill_front-count.ensures.front;
   end = ended _ c.args.self.now.given c.args.self.now.bytes _ _ c.left.ensures.left c.fill_front-count.ensures.count;
   failed = search rules;
+  cause = search rules;
+  others = search rules;
 }
