@@ -1,5 +1,5 @@
 -- The texts of replies: compact JSON, each object's members in the order of their names' bytes.
-use Rattle.std.specs.Prelude.{ℕ, ℤ, List, [], ◌∷◌, Option, Some, None, map, slice_get, codes}
+use Rattle.std.specs.Prelude.{ℕ, ℤ, List, [], ◌∷◌, Option, Some, None, option_map, unwrap_or, map, slice_get, codes}
 use Rattle.serde_json.specs.Data.{Data, null, number, string, array, object, Members, no_members, member, put, unsigned}
 use Rattle.serde_json.specs.Find.{of_integer}
 use Rattle.serde_json.specs.View.{items_of}
@@ -132,34 +132,38 @@ abbrev pub conflict_data : Table → ℕ → ℕ → Data
 conflict_data table start now =
     error_data (codes "conflict") (codes "P2034") (member (codes "now") (number (unsigned now)) (member (codes "start") (number (unsigned start)) (member (codes "table") (string table.name) no_members)))
 
--- the JSON of a reply; a greeting has none
-abbrev pub reply_data : Schema → Reply → Data
-reply_data schema reply.Hello = null
-reply_data schema (reply.Answer found) = data_of found
-reply_data schema (reply.Answers found) = batch_data found
-reply_data schema (reply.Started session) = single (codes "id") (number (unsigned session))
-reply_data schema (reply.Committed session) = single (codes "committed") (number (unsigned session))
-reply_data schema (reply.RolledBack session) = single (codes "rolledBack") (number (unsigned session))
-reply_data schema (reply.Refused index broken) = fault_data schema index broken
-reply_data schema (reply.Unknown asked next) = no_transaction_data (codes "unknown") asked next
-reply_data schema (reply.Closed asked next) = no_transaction_data (codes "closed") asked next
-reply_data schema (reply.Expired deadline moment) = expired_data deadline moment
-reply_data schema reply.Full = full_data
-reply_data schema (reply.Conflict table start now) = conflict_data (table_at schema table.0) start now
-reply_data schema (reply.Unseen asked place) = unseen_data asked place
-reply_data schema reply.Memory = memory_data
+-- the JSON of a reply; a greeting, and want of memory, for which a fixed text stands, have none
+abbrev pub told_data : Schema → Reply → Option Data
+told_data schema reply.Hello = None
+told_data schema (reply.Answer found) = Some (data_of found)
+told_data schema (reply.Answers found) = Some (batch_data found)
+told_data schema (reply.Started session) = Some (single (codes "id") (number (unsigned session)))
+told_data schema (reply.Committed session) = Some (single (codes "committed") (number (unsigned session)))
+told_data schema (reply.RolledBack session) = Some (single (codes "rolledBack") (number (unsigned session)))
+told_data schema (reply.Refused index broken) = Some (fault_data schema index broken)
+told_data schema (reply.Unknown asked next) = Some (no_transaction_data (codes "unknown") asked next)
+told_data schema (reply.Closed asked next) = Some (no_transaction_data (codes "closed") asked next)
+told_data schema (reply.Expired deadline moment) = Some (expired_data deadline moment)
+told_data schema reply.Full = Some full_data
+told_data schema (reply.Conflict table start now) = Some (conflict_data (table_at schema table.0) start now)
+told_data schema (reply.Unseen asked place) = Some (unseen_data asked place)
+told_data schema reply.Memory = None
+
+-- the text that is made of a reply
+abbrev pub told_text : Schema → Reply → Option (List ℕ)
+told_text schema found = option_map compact_text (told_data schema found)
+
+abbrev pub memory_text : List ℕ
+memory_text = compact_text memory_data
 
 -- the text of a reply; a greeting has none
 abbrev pub text_of : Schema → Reply → List ℕ
-text_of schema reply.Hello = []
-text_of schema other = compact_text (reply_data schema other)
+text_of schema reply.Memory = memory_text
+text_of schema other = unwrap_or (told_text schema other) []
 
--- the texts of a line that isn't JSON, that isn't carried out yet, and that memory was short for
+-- the texts of a line that isn't JSON, and of one that isn't carried out yet
 abbrev pub not_json_text : List ℕ
 not_json_text = compact_text (error_data (codes "json") (codes "E3") no_members)
 
 abbrev pub unbuilt_text : List ℕ
 unbuilt_text = compact_text (error_data (codes "unbuilt") (codes "E9") no_members)
-
-abbrev pub memory_text : List ℕ
-memory_text = compact_text memory_data

@@ -9,7 +9,6 @@ use Rattle.qe_base.specs.declared.event.Event.{Event}
 use Rattle.qe_base.specs.declared.event.Reply.{Reply}
 use Rattle.qe_base.specs.declared.event.Reply.TheVariants as reply
 use Rattle.qe_base.specs.declared.event.Entry.{Entry}
-use Rattle.qe_history.specs.History.{entry}
 use Rattle.qe_forms.specs.Request.{Asked, not_json, unbuilt, asks, asked_of}
 use Rattle.qe_forms.specs.Reply.{text_of, not_json_text, unbuilt_text, memory_text}
 
@@ -44,7 +43,7 @@ event_of asked = record { seen = None; outside = outside; what = asked }
 
 -- the caller is the one that greeted at place 0
 abbrev pub entry_of : What → Reply → Entry
-entry_of asked reply = entry 0 (event_of asked) reply
+entry_of asked reply = record { caller = 0; event = event_of asked; reply = reply }
 
 abbrev pub entered_of : LineOutcome → List Entry
 entered_of (told text) = []

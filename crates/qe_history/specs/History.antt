@@ -2,8 +2,6 @@
 use Rattle.std.specs.Prelude.{◌≡◌, ◌⊎◌, ℕ, List, [], ◌∷◌, ◌++◌, length, slice_get, Some}
 use Rattle.qe_base.specs.declared.event.What.{What}
 use Rattle.qe_base.specs.declared.event.What.TheVariants as what
-use Rattle.qe_base.specs.declared.event.Event.{Event}
-use Rattle.qe_base.specs.declared.event.Reply.{Reply}
 use Rattle.qe_base.specs.declared.event.Entry.{Entry}
 use Rattle.qe_history.specs.State.{State, Step}
 
@@ -22,11 +20,12 @@ pub record HasGreeted (history : List Entry) (caller : ℕ) : Type 0 where
 abbrev pub MayCall : List Entry → ℕ → What → Type 0
 MayCall history caller asked = HasGreeted history caller ⊎ ((caller ≡ length history) × IsGreeting asked)
 
-abbrev pub entry : ℕ → Event → Reply → Entry
-entry caller event reply = record { caller = caller; event = event; reply = reply }
+-- An entry is allowed after a history: its caller may call, and it is a step from the state so far.
+pub record Follows (history : List Entry) (one : Entry) (before after : State) : Type 0 where
+  pub caller : MayCall history one.caller one.event.what
+  pub step : Step before (length history) one.event one.reply after
 
 -- The entries, each allowed after those before it, are one legal history from the opening, which leaves this state.
 pub data Legal (opening : State) : List Entry → State → Type 0 where
   Opened : Legal opening [] opening
-  Entered : {history : List Entry} {before after : State} {caller : ℕ} {event : Event} {reply : Reply} → Legal opening history before → MayCall history caller event.what
-      → Step before (length history) event reply after → Legal opening (history ++ entry caller event reply ∷ []) after
+  Entered : {history : List Entry} {one : Entry} {before after : State} → Legal opening history before → Follows history one before after → Legal opening (history ++ one ∷ []) after

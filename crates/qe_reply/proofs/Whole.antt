@@ -1,8 +1,9 @@
 -- The JSON of answers and errors, and that there is no float in it.
-use Rattle.std.proofs.Common.{◌≡◌, ℕ, List, [], ◌∷◌, map, Bool, false, ◌||◌, Option, Some, None, slice_get, refl, ap, ◌∙◌, subst, rules, Ordering, Less, Equal, Greater, nat_cmp}
+use Rattle.std.proofs.Common.{◌≡◌, ℕ, ℤ, pos, negsuc, List, [], ◌∷◌, map, Bool, false, ◌||◌, Option, Some, None, IfSome, slice_get, refl, sym, ap, ◌∙◌, subst, rules, Ordering, Less, Equal, Greater, nat_cmp}
 use Rattle.std.specs.Cmp.Lexicographic.{slice_cmp}
 use Rattle.std.specs.Ordering.{match_ordering}
 use Rattle.serde_json.specs.Data.{Data, Members, no_members, member, put}
+use Rattle.serde_json.specs.Find.{is_float, of_integer}
 use Rattle.serde_json.specs.View.{items_of}
 use Rattle.serde_json.specs.Written.{has_float, members_have_float, items_have_float}
 use Rattle.qe_base.specs.declared.value.Value.{Value}
@@ -16,9 +17,11 @@ use Rattle.qe_base.specs.declared.answer.OpFault.{OpFault}
 use Rattle.qe_base.specs.declared.answer.OpFault.TheVariants as fault
 use Rattle.qe_base.specs.declared.answer.Rule.{Rule}
 use Rattle.qe_base.specs.declared.answer.Rule.TheVariants as rule
+use Rattle.qe_base.specs.declared.event.Reply.{Reply}
+use Rattle.qe_base.specs.declared.event.Reply.TheVariants as reply
 use Rattle.qe_schema.specs.Tables.{table_at}
 use Rattle.qe_reading.specs.Page.{columns_of}
-use Rattle.qe_forms.specs.Reply.{scalar_data, answer_step, answer_data, object_of, put_all, indexed_data, column_name, names_data, rule_data, fault_data}
+use Rattle.qe_forms.specs.Reply.{scalar_data, answer_step, answer_data, object_of, put_all, indexed_data, column_name, names_data, rule_data, fault_data, told_data, data_of}
 
 pub answer_object : (members : List (List ℕ × Answer)) → answer_data (Object members) ≡ object_of (map (λ one. (one.0, answer_data one.1)) members)
 answer_object members = search (rules, the_lemmas)
@@ -105,8 +108,36 @@ rule_whole schema index (rule.Range table column why) = refl
 rule_whole schema index (rule.Dangling table field) = refl
 rule_whole schema index (rule.Absent table) = indexed_whole index _ _ _ refl
 
-pub fault_whole : (schema : Schema) (index : Option ℕ) (broken : OpFault) → has_float (fault_data schema index broken) ≡ false
+fault_whole : (schema : Schema) (index : Option ℕ) (broken : OpFault) → has_float (fault_data schema index broken) ≡ false
 fault_whole schema index (fault.Rule broken) = rule_whole schema index broken
 fault_whole schema index (fault.Connector before after) = indexed_whole index _ _ _ refl
 fault_whole schema index (fault.Misfit table column) = indexed_whole index _ _ _ refl
 fault_whole schema index fault.Memory = refl
+
+answers_whole : (answers : List Answer) → items_have_float (items_of (map data_of answers)) ≡ false
+answers_whole [] = refl
+answers_whole (one ∷ rest) = or_false _ _ (or_false _ _ (answer_whole one) refl) (answers_whole rest)
+
+number_whole : (z : ℤ) → is_float (of_integer z) ≡ false
+number_whole (pos n) = refl
+number_whole (negsuc n) = refl
+
+whole : (schema : Schema) (found : Reply) → IfSome (told_data schema found) (λ json. has_float json ≡ false)
+whole schema reply.Hello = tt
+whole schema (reply.Answer found) = or_false _ _ (answer_whole found) refl
+whole schema (reply.Answers found) = or_false _ _ (answers_whole found) refl
+whole schema (reply.Started session) = refl
+whole schema (reply.Committed session) = refl
+whole schema (reply.RolledBack session) = refl
+whole schema (reply.Refused index broken) = fault_whole schema index broken
+whole schema (reply.Unknown asked next) = refl
+whole schema (reply.Closed asked next) = refl
+whole schema (reply.Expired deadline moment) = rw (number_whole deadline, number_whole moment)
+whole schema reply.Full = refl
+whole schema (reply.Conflict table start now) = refl
+whole schema (reply.Unseen asked place) = refl
+whole schema reply.Memory = tt
+
+-- the JSON that is made of a reply has no float
+pub reply_whole : (schema : Schema) (found : Reply) (json : Data) → Some json ≡ told_data schema found → has_float json ≡ false
+reply_whole schema found json is = subst (λ (told : Option Data). IfSome told (λ json. has_float json ≡ false)) (sym is) (whole schema found)

@@ -35,7 +35,8 @@ fn ended_error(
     Ok(Json::Object(error))
 }
 
-fn error_json(
+/// An error with its cause and code, in the operation of an index where one is given.
+pub fn error_json(
     alloc: Global,
     index: Option<u64>,
     cause: &str,
@@ -54,7 +55,8 @@ fn error_json(
     }
 }
 
-fn model_name(schema: &Schema, table: TableId) -> &str
+/// The name of a table.
+pub fn model_name(schema: &Schema, table: TableId) -> &str
     ensures { result.now ≡ (table_at schema.now table.0).name }
 {
     match schema.table(table) {
@@ -138,7 +140,7 @@ fn rule_json(
 }
 
 /// The error of a connector that failed, with its count of faults before and after.
-pub fn connector_json(
+fn connector_json(
     alloc: Global,
     index: Option<u64>,
     before: u64,

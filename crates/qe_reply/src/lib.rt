@@ -4,8 +4,10 @@
 mod answers;
 mod errors;
 mod fixed;
+mod room;
 mod texts;
+mod transactions;
 
-pub use fixed::{memory_text, not_json_text, unbuilt_text};
-pub use qe_base::Reply;
-pub use texts::write_reply;
+pub use fixed::{memory_line, not_json_line, unbuilt_line};
+pub use room::FaultRoom;
+pub use texts::{ReplyText, write_reply};
