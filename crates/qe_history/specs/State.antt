@@ -78,14 +78,14 @@ ComesOfAll schema outside ops (Some live) outcome = outcome ≡ batch_outcome (p
 ComesOfAll schema outside ops None outcome = MayReplyAll (length ops) outcome.reply × (outcome.live ≡ None)
 
 -- What comes of an event that has operations. The other events aren't carried out yet.
-abbrev pub ComesOf : State → Outside → What → Outcome → Type 0
-ComesOf state outside what.Hello outcome = ⊥
-ComesOf state outside (what.Single op) outcome = ComesOfOne state.schema outside op state.live outcome
-ComesOf state outside (what.Batch ops) outcome = ComesOfAll state.schema outside ops state.live outcome
-ComesOf state outside (what.Start timeout) outcome = ⊥
-ComesOf state outside (what.Step number op) outcome = ⊥
-ComesOf state outside (what.Commit number) outcome = ⊥
-ComesOf state outside (what.Rollback number) outcome = ⊥
+abbrev pub ComesOf : Schema → Option Tables → Outside → What → Outcome → Type 0
+ComesOf schema live outside what.Hello outcome = ⊥
+ComesOf schema live outside (what.Single op) outcome = ComesOfOne schema outside op live outcome
+ComesOf schema live outside (what.Batch ops) outcome = ComesOfAll schema outside ops live outcome
+ComesOf schema live outside (what.Start timeout) outcome = ⊥
+ComesOf schema live outside (what.Step number op) outcome = ⊥
+ComesOf schema live outside (what.Commit number) outcome = ⊥
+ComesOf schema live outside (what.Rollback number) outcome = ⊥
 
 -- ---- the four cases of a step
 
@@ -107,7 +107,7 @@ RefusesUnseen place (Some seen) reply = reply ≡ replies.Unseen seen place
 abbrev pub Clears : Bool → State → ℕ → Event → Reply → State → Type 0
 Clears false before place event reply after = RefusesUnseen place event.seen reply × (after ≡ before)
 Clears true before place event reply after =
-    (outcome : Outcome) × ComesOf before event.outside event.what outcome × (reply ≡ outcome.reply) × (after ≡ record before { live = outcome.live })
+    (outcome : Outcome) × ComesOf before.schema before.live event.outside event.what outcome × (reply ≡ outcome.reply) × (after ≡ record before { live = outcome.live })
 
 -- at every event but a greeting
 abbrev pub Clear : State → ℕ → Event → What → Reply → State → Type 0
@@ -124,22 +124,22 @@ abbrev pub IsLater : ℕ → ℕ → Type 0
 IsLater first last = (first < last) ⊎ ((first ≡ 2 ^ 64 - 1) × (last ≡ 2 ^ 64 - 1))
 
 -- The operations before this index of a batch are accepted over the told tables.
-abbrev pub AreAccepted : State → Outside → List Op → ℕ → Type 0
-AreAccepted state outside ops index = IfSome state.live (λ live. IsOk (plain_all state.schema (take index ops) outside live).answers)
+abbrev pub AreAccepted : Schema → Option Tables → Outside → List Op → ℕ → Type 0
+AreAccepted schema told outside ops index = IfSome told (λ live. IsOk (plain_all schema (take index ops) outside live).answers)
 
 -- the fault of a connector has no index in a single operation; in a batch it has that of the operation at which it
 -- came, or none where it came when all were accepted
-abbrev pub FailsAt : State → Outside → What → Option ℕ → Type 0
-FailsAt state outside (what.Single op) None = Unit {0}
-FailsAt state outside (what.Batch ops) (Some index) = (index < length ops) × AreAccepted state outside ops index
-FailsAt state outside (what.Batch ops) None = AreAccepted state outside ops (length ops)
-FailsAt state outside _ _ = ⊥
+abbrev pub FailsAt : Schema → Option Tables → Outside → What → Option ℕ → Type 0
+FailsAt schema told outside (what.Single op) None = Unit {0}
+FailsAt schema told outside (what.Batch ops) (Some index) = (index < length ops) × AreAccepted schema told outside ops index
+FailsAt schema told outside (what.Batch ops) None = AreAccepted schema told outside ops (length ops)
+FailsAt schema told outside _ _ = ⊥
 
 -- The connector failed, which a steady one never does: what its caller had seen was tested, its count before the
 -- event, which is that of the last fault, and at the fault are told, and the live tables stay.
 abbrev pub Fails : State → ℕ → Event → Reply → State → Type 0
 Fails before place event (replies.Refused index (fault.Connector first last)) after =
-    (before.steady ≡ false) × (has_seen event.seen place ≡ true) × FailsAt before event.outside event.what index × (first ≡ before.faults) × IsLater first last × (after ≡ record before { faults = last })
+    (before.steady ≡ false) × (has_seen event.seen place ≡ true) × FailsAt before.schema before.live event.outside event.what index × (first ≡ before.faults) × IsLater first last × (after ≡ record before { faults = last })
 Fails before place event _ after = ⊥
 
 -- An event at a place may be replied to so, and leads from one state to the other.

@@ -1,0 +1,113 @@
+-- What running the operations of an event over a view comes to, and what is told of that in the end.
+use Rattle.std.specs.Prelude.{◌≡◌, ◌⊎◌, ℕ, Bool, true, List, [], ◌∷◌, Option, Some, None}
+use Rattle.std.specs.List.{list_all}
+use Rattle.qe_base.specs.Causes.{HasCause}
+use Rattle.qe_base.specs.Schemas.{Schema}
+use Rattle.qe_base.specs.declared.answer.OpFault.TheVariants as fault
+use Rattle.qe_base.specs.declared.answer.Outside.{Outside}
+use Rattle.qe_base.specs.declared.event.Reply.{Reply}
+use Rattle.qe_base.specs.declared.event.Reply.TheVariants as replies
+use Rattle.qe_base.specs.declared.event.What.{What}
+use Rattle.qe_base.specs.declared.event.What.TheVariants as what
+use Rattle.qe_base.specs.declared.write.Op.{Op}
+use Rattle.qe_history.specs.State.{ComesOf, FailsAt}
+use Rattle.qe_ops.specs.Bounds.{both_calls, calls_of, reads_alone}
+use Rattle.qe_ops.specs.Leaves.{CanGoBack, Leaves}
+use Rattle.qe_schema.specs.Tables.{Tables}
+use Rattle.qe_view.specs.Attached.{Connected}
+use Rattle.qe_view.specs.Calls.{CallCounts, no_calls, with_apply}
+use Rattle.qe_view.specs.Versions.{Viewed}
+use Rattle.qe_view.specs.declared.changes.ConnFault.{ConnFault}
+use Rattle.qe_view.specs.declared.changes.ConnFault.TheVariants as conn
+use Rattle.qe_session.specs.declared.run.Ran.{Ran}
+use Rattle.qe_session.specs.declared.run.Ran.TheVariants.{Answered, Refused, Failed, Memory}
+
+-- ---- running
+
+abbrev pub misfit_in : Reply → Option ConnFault
+misfit_in (replies.Refused index (fault.Misfit table column)) = Some (conn.Misfit table column)
+misfit_in _ = None
+
+-- the fault of a connector by which a run ended
+abbrev pub fault_of : Ran → Option ConnFault
+fault_of (Answered reply) = None
+fault_of (Refused reply) = misfit_in reply
+fault_of (Failed index first last) = Some conn.Failed
+fault_of Memory = None
+
+-- the outcome of the operations, whatever moment and seed they are given
+abbrev pub Outcomes : Schema → What → Option Tables → Reply → Option Tables → Type 0
+Outcomes schema asked told reply live = (outside : Outside) → ComesOf schema told outside asked (record { reply = reply; live = live })
+
+abbrev pub IsAnswer : Reply → Type 0
+IsAnswer (replies.Answer answer) = Unit {0}
+IsAnswer (replies.Answers answers) = Unit {0}
+IsAnswer _ = ⊥
+
+-- a broken rule, or a kept row that doesn't fit
+abbrev pub IsRefusal : Reply → Type 0
+IsRefusal (replies.Refused index (fault.Rule broken)) = Unit {0}
+IsRefusal (replies.Refused index (fault.Misfit table column)) = Unit {0}
+IsRefusal _ = ⊥
+
+-- Answers are those of the operations, whose changes are in the view; a refusal leaves the live tables; a fault has the
+-- connector's counts.
+abbrev pub RunsTo : Schema → What → Viewed → Viewed → Ran → Type 0
+RunsTo schema asked before after (Answered reply) = IsAnswer reply × Outcomes schema asked before.now reply after.now × CanGoBack before after
+RunsTo schema asked before after (Refused reply) = IsRefusal reply × Outcomes schema asked before.now reply before.now
+RunsTo schema asked before after (Failed index first last) =
+    ((outside : Outside) → FailsAt schema before.now outside asked index) × (first ≡ before.below.faults.count) × (last ≡ after.below.faults.count)
+RunsTo schema asked before after Memory = Unit {0}
+
+abbrev pub all_calls : Schema → List Op → CallCounts
+all_calls schema [] = no_calls
+all_calls schema (op ∷ ops) = both_calls (calls_of schema op) (all_calls schema ops)
+
+-- how many calls are made at most to run the operations of an event
+abbrev pub calls_for : Schema → What → CallCounts
+calls_for schema (what.Single op) = calls_of schema op
+calls_for schema (what.Batch ops) = all_calls schema ops
+calls_for schema _ = no_calls
+
+-- whether no operation of an event writes
+abbrev pub only_reads : What → Bool
+only_reads (what.Single op) = reads_alone op
+only_reads (what.Batch ops) = list_all reads_alone ops
+only_reads _ = true
+
+-- The operations of an event were run over a view of this schema.
+pub record Runs (schema : Schema) (asked : What) (before after : Viewed) (ran : Ran) : Type 0 where
+  pub comes : RunsTo schema asked before after ran
+  pub leaves : Leaves (calls_for schema asked) before after (fault_of ran)
+  pub reads : only_reads asked ≡ true → after.past ≡ before.past
+
+-- ---- telling
+
+-- nothing was applied below, and no fault came
+abbrev pub Unchanged : Connected → Connected → Type 0
+Unchanged before after = (after.told ≡ before.told) × (after.faults ≡ before.faults)
+
+-- memory was short for a text or for changes
+abbrev pub IsShort : Reply → Viewed → Connected → Type 0
+IsShort told before after = (told ≡ replies.Memory) × Unchanged before.below after
+
+-- the connector failed to take the changes of an answer
+abbrev pub IsFault : Reply → Viewed → Connected → Type 0
+IsFault told before after =
+    (told ≡ replies.Refused None (fault.Connector before.below.faults.count after.faults.count)) × (after.told ≡ before.below.told) × HasCause before.below.faults after.faults (Unit {0})
+
+-- An answer is told once its changes are below, a refusal and a fault without any.
+abbrev pub TellsOf : Ran → Reply → Viewed → Connected → Type 0
+TellsOf (Answered reply) told before after = ((told ≡ reply) × (after.told ≡ before.now) × (after.faults ≡ before.below.faults)) ⊎ (IsShort told before after ⊎ IsFault told before after)
+TellsOf (Refused reply) told before after = ((told ≡ reply) × Unchanged before.below after) ⊎ IsShort told before after
+TellsOf (Failed index first last) told before after = (told ≡ replies.Refused index (fault.Connector first last)) × Unchanged before.below after
+TellsOf Memory told before after = IsShort told before after
+
+-- What was run over a view is told so, and its changes are below or forgotten. What is below got one call at most, none
+-- where nothing was changed.
+pub record Tells (ran : Ran) (told : Reply) (before : Viewed) (after : Connected) : Type 0 where
+  pub tells : TellsOf ran told before after
+  pub applied : ((after.calls ≡ before.below.calls) × (after.told ≡ before.below.told)) ⊎ (after.calls ≡ with_apply before.below.calls)
+  pub idle : before.past ≡ [] → after.calls ≡ before.below.calls
+  pub misfits : after.misfits ≡ before.below.misfits
+  pub attached : after.attached ≡ before.below.attached
