@@ -1,5 +1,5 @@
 -- What is told of the kept tables fits, and what is read of them.
-use Rattle.std.proofs.Common.{◌≡◌, ℕ, zero, suc, pos, List, [], ◌∷◌, ◌++◌, map, filter, cond, Option, Some, None, Bool, true, false, refl, sym, ap, ◌∙◌, subst}
+use Rattle.std.proofs.Common.{◌≡◌, ℕ, zero, suc, pos, List, [], ◌∷◌, ◌++◌, map, filter, cond, Option, Some, None, IfSome, Bool, true, false, refl, sym, ap, ◌∙◌, subst}
 use Rattle.std.specs.List.{list_all}
 use Rattle.std.proofs.lemmas.List.Folds.{list_all-append}
 use Rattle.std.proofs.lemmas.Bool.{and_from, and_parts}
@@ -14,7 +14,7 @@ use Rattle.qe_view.specs.After.{pair_row, rows_in, rows_at, is_wanted}
 use Rattle.qe_mem.specs.Kept.{nothing_kept, empty_for, kept_at, pair_of, tables_of, ArePairs}
 use Rattle.qe_mem.specs.Mem.{AreHeld}
 use Rattle.qe_mem.specs.declared.tables.MemTable.{MemTable}
-use Rattle.qe_view.specs.Attached.{FitLayout, OfShapes, shapes_of}
+use Rattle.qe_view.specs.Attached.{Attached, shapes_of}
 use Rattle.qe_view.specs.Layouts.{Layout}
 use Rattle.qe_mem.proofs.Keeping.{same_tables, columns_empty}
 use Rattle.qe_mem.proofs.Stepping.{all_at, pair_rows, HasPairs}
@@ -97,19 +97,29 @@ no_rows_fit schema = record {
 pub empty_fit : (schema : Schema) (tables : List Table) → FitsSchema schema (tables_of (map empty_for tables))
 empty_fit schema tables = subst (FitsSchema schema) (sym (empty_told tables)) (no_rows_fit schema)
 
--- what is read of the tables of a layout fits it
-pub read_fit : (layout : Option Layout) (kept : List MemTable) (table : ℕ) (rows : List Row) → FitLayout layout (Some (tables_of kept)) → rows ≡ rows_in (tables_of kept) table → OfShapes layout (λ shapes. list_all (fits_row shapes table) rows ≡ true)
+-- the kept tables fit the attached layout
+abbrev pub HeldFit : Option Attached → List MemTable → Type 0
+HeldFit attached kept = IfSome attached (λ opened. FitsSchema (shapes_of opened.layout) (tables_of kept))
+
+-- what is read of the tables of an attached layout fits it
+pub read_fit : (attached : Option Attached) (kept : List MemTable) (table : ℕ) (rows : List Row) → HeldFit attached kept → rows ≡ rows_in (tables_of kept) table
+    → IfSome attached (λ opened. list_all (fits_row (shapes_of opened.layout) table) rows ≡ true)
 read_fit None kept table rows fits is = tt
-read_fit (Some layout) kept table rows fits is = subst (λ (l : List Row). list_all (fits_row (shapes_of layout) table) l ≡ true) (sym is) (rows_fit (shapes_of layout) (tables_of kept) table fits)
+read_fit (Some opened) kept table rows fits is =
+    subst (λ (l : List Row). list_all (fits_row (shapes_of opened.layout) table) l ≡ true) (sym is) (rows_fit (shapes_of opened.layout) (tables_of kept) table fits)
 
-pub found_fit : (layout : Option Layout) (kept : List MemTable) (columns : List ℕ) (keys : List Row) (table : ℕ) (rows : List Row) → FitLayout layout (Some (tables_of kept)) → rows ≡ rows_at columns keys table (tables_of kept)
-    → OfShapes layout (λ shapes. list_all (fits_row shapes table) rows ≡ true)
+pub found_fit : (attached : Option Attached) (kept : List MemTable) (columns : List ℕ) (keys : List Row) (table : ℕ) (rows : List Row) → HeldFit attached kept → rows ≡ rows_at columns keys table (tables_of kept)
+    → IfSome attached (λ opened. list_all (fits_row (shapes_of opened.layout) table) rows ≡ true)
 found_fit None kept columns keys table rows fits is = tt
-found_fit (Some layout) kept columns keys table rows fits is = subst (λ (l : List Row). list_all (fits_row (shapes_of layout) table) l ≡ true) (sym is) (wanted_fit (shapes_of layout) (tables_of kept) columns keys table fits)
+found_fit (Some opened) kept columns keys table rows fits is =
+    subst (λ (l : List Row). list_all (fits_row (shapes_of opened.layout) table) l ≡ true) (sym is) (wanted_fit (shapes_of opened.layout) (tables_of kept) columns keys table fits)
 
-held_at : (layout : Layout) → AreHeld (Some layout) (map empty_for layout.tables)
-held_at layout = record { columns = columns_empty layout.tables; fits = empty_fit (shapes_of layout) layout.tables; pairs = empty_have_pairs layout.tables }
+held_at : (place : List ℕ) (layout : Layout) → AreHeld (Some (record { place = place; layout = layout })) (map empty_for layout.tables)
+held_at place layout = record { columns = columns_empty layout.tables; fits = empty_fit (shapes_of layout) layout.tables; pairs = empty_have_pairs layout.tables }
 
 -- empty tables are held of a layout
-pub held_empty : (layout copy : Layout) (tables : List Table) (kept : List MemTable) → tables ≡ layout.tables → copy ≡ layout → kept ≡ map empty_for tables → AreHeld (Some copy) kept
-held_empty layout copy tables kept tables_are copy_is is = subst (AreHeld (Some copy)) (sym (is ∙ ap (map empty_for) tables_are)) (subst (λ (l : Layout). AreHeld (Some l) (map empty_for layout.tables)) (sym copy_is) (held_at layout))
+pub held_empty : (place : List ℕ) (layout copy : Layout) (tables : List Table) (kept : List MemTable) → tables ≡ layout.tables → copy ≡ layout → kept ≡ map empty_for tables
+    → AreHeld (Some (record { place = place; layout = copy })) kept
+held_empty place layout copy tables kept tables_are copy_is is =
+    subst (AreHeld (Some (record { place = place; layout = copy }))) (sym (is ∙ ap (map empty_for) tables_are))
+    (subst (λ (l : Layout). AreHeld (Some (record { place = place; layout = l })) (map empty_for layout.tables)) (sym copy_is) (held_at place layout))

@@ -2,7 +2,8 @@
 use Rattle.std.proofs.Common.{◌≡◌, ℕ, ◌+◌, ◌-◌, ◌^◌, ◌≤◌, Bool, true, false, ◌==◌, List, [], ◌∷◌, refl, sym, ap, ◌∙◌, subst, arith, nat_lt, if◌then◌else◌}
 use Rattle.std.specs.List.{list_any}
 use Rattle.std.proofs.lemmas.Bool.{and_parts, eqb-true, lt-ltb}
-use Rattle.qe_mem.specs.Counts.{rank, made, with_call, with_fault, is_listed, fails_next, may_fail, after_call}
+use Rattle.qe_base.specs.Causes.{HasCause}
+use Rattle.qe_mem.specs.Counts.{rank, made, with_call, with_fault, is_listed, fails_next, may_fail, faults_of, after_call}
 use Rattle.qe_mem.specs.declared.counts.Counts.{Counts}
 use Rattle.qe_mem.specs.declared.counts.FailAt.{FailAt}
 use Rattle.qe_mem.specs.declared.counts.CallKind.{CallKind}
@@ -114,3 +115,19 @@ pub stays_sure : (call : CallKind) (counts : Counts) → Grows call counts → m
 stays_sure call counts le sure =
     ap (list_any (λ fail. nat_lt (made fail.call (after_call call counts)) fail.number)) (same_fails (fails_next call counts) call counts)
     ∙ none_later counts (after_call call counts) counts.fail (λ kind. grows (fails_next call counts) call kind counts le) sure
+
+same_faults : (call : CallKind) (counts : Counts) → (with_call call counts).faults ≡ counts.faults
+same_faults Attach counts = refl
+same_faults Load counts = refl
+same_faults Scan counts = refl
+same_faults Last counts = refl
+same_faults Apply counts = refl
+
+-- a call that passes raises no count of faults
+pub passes : (call : CallKind) (counts now : Counts) (failed : Type 0) → (failed → ⊥) → now ≡ with_call call counts → (may_fail counts ≡ false → may_fail now ≡ false) → HasCause (faults_of counts) (faults_of now) failed
+passes call counts now failed passed is sure =
+    let same = ap (λ (c : Counts). c.faults) is ∙ same_faults call counts in
+    record {
+      counted = record { later = subst (λ n. counts.faults ≤ n) (sym same) (same_by counts.faults); rose = λ fails. absurd (passed fails); still = λ _. same };
+      never = λ none. (passed, λ i. record { count = same i; may_fail = (sure none ∙ sym none) i });
+    }

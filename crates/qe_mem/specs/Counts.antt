@@ -1,6 +1,7 @@
 -- The calls of a connector in memory, of which some are to fail.
 use Rattle.std.specs.Prelude.{ℕ, ◌+◌, ◌-◌, ◌^◌, Bool, ◌&&◌, ◌==◌, nat_lt, List, if◌then◌else◌}
 use Rattle.std.specs.List.{list_any}
+use Rattle.qe_base.specs.Causes.{Faults}
 use Rattle.qe_view.specs.Calls.{CallCounts, more}
 use Rattle.qe_mem.specs.declared.counts.Counts.{Counts}
 use Rattle.qe_mem.specs.declared.counts.FailAt.{FailAt}
@@ -47,6 +48,9 @@ fails_next call counts = nat_lt (made call counts) (2 ^ 64 - 1) && list_any (is_
 -- some later call is to fail
 abbrev pub may_fail : Counts → Bool
 may_fail counts = list_any (λ fail. nat_lt (made fail.call counts) fail.number) counts.fail
+
+abbrev pub faults_of : Counts → Faults
+faults_of counts = record { count = counts.faults; may_fail = may_fail counts }
 
 -- one call more, and one fault more where it is to fail
 abbrev pub after_call : CallKind → Counts → Counts

@@ -1,5 +1,5 @@
 //! Calls that are counted, of which some are to fail.
-ghost use Rattle.std.specs.Prelude.{◌≡◌, ◌^◌, ◌-◌, ◌+◌, ◌≤◌, nat_lt, true, false};
+ghost use Rattle.std.specs.Prelude.{◌≡◌, ◌^◌, ◌-◌, ◌+◌, ◌≤◌, nat_lt, true};
 ghost use Rattle.std.specs.List.{list_any};
 ghost use Rattle.qe_base.specs.Causes.{HasCause};
 
@@ -51,7 +51,7 @@ impl CallKind {
 }
 
 impl Counts {
-    ghost use Rattle.qe_mem.specs.Counts.{no_calls, made, with_call, with_fault, is_listed, fails_next, may_fail, after_call};
+    ghost use Rattle.qe_mem.specs.Counts.{no_calls, made, with_call, with_fault, is_listed, fails_next, faults_of, after_call};
 
     /// No call was made yet, and these are to fail.
     pub fn new(fail: Items<FailAt>) -> Counts
@@ -126,8 +126,7 @@ impl Counts {
     pub fn begin(&mut self, call: CallKind) -> bool
         ensures fails { result ≡ fails_next call self.old }
         ensures counted { self.new ≡ after_call call self.old }
-        ensures cause { HasCause (may_fail self.old) self.old.faults self.new.faults (result ≡ true) }
-        ensures sure { may_fail self.old ≡ false → may_fail self.new ≡ false }
+        ensures cause { HasCause (faults_of self.old) (faults_of self.new) (result ≡ true) }
     {
         let fails = self.fails_next(call);
         self.count(call);

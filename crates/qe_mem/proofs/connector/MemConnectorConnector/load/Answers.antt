@@ -3,4 +3,4 @@ use Rattle.qe_mem.proofs.connector.MemConnectorConnector.load.Goals as goal
 
 pub returns-clause-rows_fit : goal.returns-clause-rows_fit
 returns-clause-rows_fit c =
-    rw (← c.self.view_is) (found_fit c.self.inside.layout c.self.inside.tables c.args.columns.now c.args.keys.now c.args.table.0 c.in_ok-rows.rows c.self.invariant.fits c.in_ok-rows.ensures)
+    rw (← c.self.view_is) (found_fit c.self.inside.attached c.self.inside.tables c.args.columns.now c.args.keys.now c.args.table.0 c.in_ok-rows.rows c.self.invariant.fits c.in_ok-rows.ensures)
