@@ -1,10 +1,9 @@
 -- Changes of layers, and of the tables seen through them.
-use Rattle.std.proofs.Common.{◌≡◌, ℕ, zero, suc, ℤ, pos, List, [], ◌∷◌, ◌++◌, map, Option, Some, None, Bool, true, false, cond, not, refl, sym, ap, subst, ◌∙◌, true≢false, slice_get}
-use Rattle.std.specs.Prelude.{unwrap_or, IfSome, ◌==◌}
+use Rattle.std.proofs.Common.{◌≡◌, ℕ, ℤ, pos, List, [], ◌∷◌, Option, Some, None, Bool, true, false, cond, not, refl, sym, ap, subst, ◌∙◌, slice_get}
+use Rattle.std.specs.Prelude.{IfSome, ◌==◌}
 use Rattle.std.specs.List.{AllByRecursion}
 use Rattle.std.proofs.lemmas.Bool.{and_parts, eqb-true, eq-eqb}
 use Rattle.qe_base.specs.ValueOrder.{row_cmp_total}
-use Rattle.qe_base.specs.declared.schema.Column.{Column}
 use Rattle.qe_base.specs.declared.schema.Table.{Table}
 use Rattle.qe_base.specs.declared.value.Row.{Row}
 use Rattle.qe_base.specs.declared.value.TableId.{TableId}
@@ -14,7 +13,7 @@ use Rattle.qe_schema.specs.Sound.{IsSound}
 use Rattle.qe_schema.specs.Fits.{FitsSchema}
 use Rattle.qe_schema.specs.Pairs.{with_pair, without_pair}
 use Rattle.qe_schema.specs.Put.{put_among}
-use Rattle.qe_schema.specs.Tables.{Tables, no_table, table_at, is_model, is_model_table, is_link, is_link_table, id_columns, id_of, with_rows, with_last, with_pairs}
+use Rattle.qe_schema.specs.Tables.{Tables, table_at, is_model, is_model_table, is_link, is_link_table, id_of, with_rows, with_last, with_pairs}
 use Rattle.qe_view.specs.After.{after, pair_row, without_id}
 use Rattle.qe_view.specs.Right.{is_row_of, is_id_of, is_pair_of, is_last_of}
 use Rattle.qe_view.specs.declared.changes.Change.TheVariants as change

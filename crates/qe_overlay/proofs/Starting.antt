@@ -5,7 +5,6 @@ use Rattle.std.specs.List.Sorted.{IsStrictlySortedBy}
 use Rattle.qe_base.specs.Schemas.{Schema}
 use Rattle.qe_schema.specs.Fits.{FitsSchema}
 use Rattle.qe_schema.specs.Tables.{Tables, table_at, is_link}
-use Rattle.qe_view.specs.Attached.{FitLayout}
 use Rattle.qe_overlay.specs.Fits.{LayersFit, EmptyStands}
 use Rattle.qe_overlay.specs.Held.{layers_in}
 use Rattle.qe_overlay.specs.Layers.{over_rows, over_pairs, seen}
@@ -35,14 +34,14 @@ unfolding IsStrictlySortedBy
 none_fit schema = record { order = λ t. tt; entries = λ t. tt; counters = λ t. tt }
 
 pub empty_stands : EmptyStands
-empty_stands schema attached told sound is below = record {
+empty_stands schema connected sound is below = record {
   sound = sound;
-  attached_is = is;
+  attached = is;
   below = below;
-  now = (none_fit schema, by_told told below);
+  now = (none_fit schema, by_told connected.told (below_fits schema connected is below));
   past = tt;
 }
   where
-    by_told : (told : Option Tables) → FitLayout attached told → IfSome told (λ tables. FitsSchema schema (seen schema (layers_in []) tables))
-    by_told None below = tt
-    by_told (Some tables) below = subst (FitsSchema schema) (sym (seen_none schema tables)) (below_fits schema attached tables is below)
+    by_told : (told : Option Tables) → IfSome told (FitsSchema schema) → IfSome told (λ tables. FitsSchema schema (seen schema (layers_in []) tables))
+    by_told None fit = tt
+    by_told (Some tables) fit = subst (FitsSchema schema) (sym (seen_none schema tables)) fit

@@ -1,6 +1,6 @@
 -- The calls of a view, by what stands.
 use Rattle.std.proofs.Common.{◌≡◌, inl, inr, ℕ, zero, suc, ℤ, pos, List, [], ◌∷◌, ◌++◌, map, filter, take, slice_get, Option, Some, None, Bool, true, false, cond, not, ◌&&◌, refl, sym, ap, subst, ◌∙◌, true≢false, length, arith}
-use Rattle.std.specs.Prelude.{unwrap_or, IfSome, option_map, int_lt, nat_lt}
+use Rattle.std.specs.Prelude.{unwrap_or, IfSome, IsSomeAnd, IsErrOf, option_map, Ok, int_lt, nat_lt}
 use Rattle.std.specs.Int.{int_max}
 use Rattle.std.specs.List.{AllByRecursion, list_all}
 use Rattle.std.proofs.lemmas.Bool.{and_parts, lt-ltb}
@@ -20,10 +20,14 @@ use Rattle.qe_base.specs.declared.value.TableId.{TableId}
 use Rattle.qe_view.specs.After.{after as after_change, rows_in, rows_at, is_wanted, pair_row}
 use Rattle.qe_view.specs.Right.{has_table, is_row_of, is_id_of, is_pair_of, is_last_of, are_values_of}
 use Rattle.qe_view.specs.declared.changes.Change.TheVariants as change
-use Rattle.qe_view.specs.Attached.{FitLayout, shapes_of, OfShapes}
+use Rattle.qe_view.specs.Attached.{Attached, Connected, FitLayout, shapes_of, OfShapes, HasShapes}
 use Rattle.qe_view.specs.Layouts.{Layout, layout_of}
-use Rattle.qe_view.specs.Versions.{LeadsToFit, changed, GoesBack as VersionsGoBack}
-use Rattle.qe_overlay.specs.Fits.{FitsAs, FitsEntry, LayersFit, FitOver, versions_over, Stands, LiesOver}
+use Rattle.qe_view.specs.Versions.{Viewed, Changes, changed, GoesBack}
+use Rattle.qe_view.specs.Answers.{HasCauses}
+use Rattle.qe_view.specs.declared.changes.ConnFault.{ConnFault}
+use Rattle.qe_view.specs.declared.changes.ConnFault.TheVariants.{Failed}
+use Rattle.qe_base.specs.Causes.{Faults, HasCause}
+use Rattle.qe_overlay.specs.Fits.{FitsAs, FitsEntry, LayersFit, FitOver, HasLayout, viewed, Stands, LiesOver}
 use Rattle.qe_overlay.specs.Held.{Held, changed_to, entered, raised, raised_over, with_raised, with_layer, with_entry, HeldGoesBack}
 use Rattle.qe_overlay.specs.Laid.{id_row, laid_over}
 use Rattle.qe_overlay.specs.Layers.{Entry, Layers, rows_and, present, over_rows, over_pairs, over_last, pair_of, seen}
@@ -45,8 +49,38 @@ shapes_fit schema tables fit = record {
   pair_order = fit.pair_order;
 }
 
-pub below_fits : (schema : Schema) (attached : Option Layout) (tables : Tables) → attached ≡ Some (layout_of schema) → FitLayout attached (Some tables) → FitsSchema schema tables
-below_fits schema attached tables is fit = shapes_fit schema tables (subst (λ (a : Option Layout). FitLayout a (Some tables)) is fit)
+-- what holds of the shapes of what is attached, holds of those of its layout
+module _ (connected : Connected) (layout : Layout) (P : Schema → Type 0) where
+  of_attached : (attached : Option Attached) → option_map (λ (a : Attached). a.layout) attached ≡ Some layout → IfSome attached (λ a. P (shapes_of a.layout)) → P (shapes_of layout)
+  of_attached None is holds = subst (λ (o : Option Layout). IfSome o (λ l. P (shapes_of l))) is holds
+  of_attached (Some a) is holds = subst (λ (o : Option Layout). IfSome o (λ l. P (shapes_of l))) is holds
+
+  has_attached : (attached : Option Attached) → option_map (λ (a : Attached). a.layout) attached ≡ Some layout → P (shapes_of layout) → IsSomeAnd attached (λ a. P (shapes_of a.layout))
+  has_attached None is holds = subst (λ (o : Option Layout). IsSomeAnd o (λ l. P (shapes_of l))) (sym is) holds
+  has_attached (Some a) is holds = subst (λ (o : Option Layout). IsSomeAnd o (λ l. P (shapes_of l))) (sym is) holds
+
+  pub of_layout : HasLayout connected layout → OfShapes connected P → P (shapes_of layout)
+  of_layout is holds = of_attached connected.attached is holds
+
+  pub has_layout : HasLayout connected layout → P (shapes_of layout) → HasShapes connected P
+  has_layout is holds = has_attached connected.attached is holds
+
+told_fit : (schema : Schema) (told : Option Tables) → IfSome told (FitsSchema (shapes_of (layout_of schema))) → IfSome told (FitsSchema schema)
+told_fit schema None fit = tt
+told_fit schema (Some tables) fit = shapes_fit schema tables fit
+
+pub below_fits : (schema : Schema) (connected : Connected) → HasLayout connected (layout_of schema) → FitLayout connected → IfSome connected.told (FitsSchema schema)
+below_fits schema connected is fit =
+    told_fit schema connected.told (of_layout connected (layout_of schema) (λ shapes. IfSome connected.told (FitsSchema shapes)) is fit)
+
+-- what stands, by the told tables alone
+pub record Standing (schema : Schema) (told : Option Tables) (held : Held) : Type 0 where
+  pub sound : IsSound schema
+  pub below : IfSome told (FitsSchema schema)
+  pub now : FitOver schema told held.layers
+
+pub standing : (schema : Schema) (held : Held) (connected : Connected) → Stands schema held connected → Standing schema connected.told held
+standing schema held connected stands = record { sound = stands.sound; below = below_fits schema connected stands.attached stands.below; now = stands.now }
 
 map-push : {A B : Type 0} (f : A → B) (xs : List A) (x : A) → map f (xs ++ x ∷ []) ≡ map f xs ++ f x ∷ []
 map-push f [] x = refl
@@ -58,28 +92,37 @@ all-push P (y ∷ xs) x all one = (all.0, all-push P xs x all.1 one)
 
 -- ---- a change
 
-module _ (schema : Schema) (attached : Option Layout) (held after : Held) (layers : Layers) (f : Tables → Tables) (is : after ≡ changed_to layers held) (fit : LayersFit schema layers)
+-- the change leads to tables that fit, where they are told
+abbrev LeadsFit : Schema → (Tables → Tables) → Option Tables → Type 0
+LeadsFit schema f told = IfSome told (λ tables. FitsSchema schema (f tables))
+
+module _ (schema : Schema) (held after : Held) (layers : Layers) (f : Tables → Tables) (is : after ≡ changed_to layers held) (fit : LayersFit schema layers)
     (leads : (tables : Tables) → FitsSchema schema tables → seen schema layers tables ≡ f (seen schema held.layers tables)) where
-  now_is : (told : Option Tables) → Stands schema attached told held → option_map (seen schema layers) told ≡ option_map f (option_map (seen schema held.layers) told)
+  now_is : (told : Option Tables) → Standing schema told held → option_map (seen schema layers) told ≡ option_map f (option_map (seen schema held.layers) told)
   now_is None stands = refl
-  now_is (Some tables) stands = ap (λ (t : Tables). Some t) (leads tables (below_fits schema attached tables stands.attached_is stands.below))
+  now_is (Some tables) stands = ap (λ (t : Tables). Some t) (leads tables stands.below)
 
-  pub versions_changed : (told : Option Tables) → Stands schema attached told held → versions_over schema told after ≡ changed f (versions_over schema told held)
-  versions_changed told stands =
-      ap (versions_over schema told) is
-      ∙ (λ i. record { now = now_is told stands i; past = map-push (λ layers. option_map (seen schema layers) told) held.past held.layers i; below = told })
+  pub viewed_changed : (connected : Connected) → Stands schema held connected → viewed schema after connected ≡ changed f (viewed schema held connected)
+  viewed_changed connected stands =
+      ap (λ (h : Held). viewed schema h connected) is
+      ∙ (λ i. let v : Viewed = record {
+        schema = schema;
+        now = now_is connected.told (standing schema held connected stands) i;
+        past = map-push (λ layers. option_map (seen schema layers) connected.told) held.past held.layers i;
+        below = connected;
+      } in v)
 
-  fit_over : (told : Option Tables) → Stands schema attached told held → LeadsToFit schema f (option_map (seen schema held.layers) told) → FitOver schema told layers
+  fit_over : (told : Option Tables) → Standing schema told held → LeadsFit schema f (option_map (seen schema held.layers) told) → FitOver schema told layers
   fit_over None stands fits = (fit, tt)
-  fit_over (Some tables) stands fits = (fit, subst (FitsSchema schema) (sym (leads tables (below_fits schema attached tables stands.attached_is stands.below))) fits)
+  fit_over (Some tables) stands fits = (fit, subst (FitsSchema schema) (sym (leads tables stands.below)) fits)
 
-  pub change_stands : (told : Option Tables) → Stands schema attached told held → LeadsToFit schema f (option_map (seen schema held.layers) told) → Stands schema attached told after
-  change_stands told stands fits = subst (Stands schema attached told) (sym is) (record {
+  pub change_stands : (connected : Connected) → Stands schema held connected → LeadsFit schema f (option_map (seen schema held.layers) connected.told) → Stands schema after connected
+  change_stands connected stands fits = subst (λ (h : Held). Stands schema h connected) (sym is) (record {
     sound = stands.sound;
-    attached_is = stands.attached_is;
+    attached = stands.attached;
     below = stands.below;
-    now = fit_over told stands fits;
-    past = all-push (FitOver schema told) held.past held.layers stands.past stands.now;
+    now = fit_over connected.told (standing schema held connected stands) fits;
+    past = all-push (FitOver schema connected.told) held.past held.layers stands.past stands.now;
   })
 
 -- ---- going back
@@ -95,11 +138,11 @@ map-take f zero xs = refl
 map-take f (suc n) [] = refl
 map-take f (suc n) (x ∷ xs) = ap (λ l. f x ∷ l) (map-take f n xs)
 
-pub versions_back : (schema : Schema) (told : Option Tables) (mark : ℕ) (before after : Held) → HeldGoesBack mark before after → VersionsGoBack mark (versions_over schema told before) (versions_over schema told after)
-versions_back schema told mark before after back = record {
-  now = map-get (λ layers. option_map (seen schema layers) told) before.past before.layers mark after.layers back.layers;
-  past = ap (map (λ layers. option_map (seen schema layers) told)) back.past ∙ map-take (λ layers. option_map (seen schema layers) told) mark before.past;
-  below = refl;
+pub viewed_back : (schema : Schema) (connected : Connected) (mark : ℕ) (before after : Held) → HeldGoesBack mark before after → GoesBack mark (viewed schema before connected) (viewed schema after connected)
+viewed_back schema connected mark before after back = record {
+  now = map-get (λ layers. option_map (seen schema layers) connected.told) before.past before.layers mark after.layers back.layers;
+  past = ap (map (λ layers. option_map (seen schema layers) connected.told)) back.past ∙ map-take (λ layers. option_map (seen schema layers) connected.told) mark before.past;
+  others = refl;
 }
 
 all-get : {A : Type 0} (P : A → Type 0) (xs : List A) (n : ℕ) (y : A) → AllByRecursion P xs → slice_get xs n ≡ Some y → P y
@@ -112,19 +155,25 @@ all-take P zero xs all = tt
 all-take P (suc n) [] all = tt
 all-take P (suc n) (x ∷ xs) all = (all.0, all-take P n xs all.1)
 
-pub back_stands : (schema : Schema) (attached : Option Layout) (told : Option Tables) (mark : ℕ) (before after : Held) → HeldGoesBack mark before after → Stands schema attached told before → Stands schema attached told after
-back_stands schema attached told mark before after back stands = record {
+pub back_stands : (schema : Schema) (connected : Connected) (mark : ℕ) (before after : Held) → HeldGoesBack mark before after → Stands schema before connected → Stands schema after connected
+back_stands schema connected mark before after back stands = record {
   sound = stands.sound;
-  attached_is = stands.attached_is;
+  attached = stands.attached;
   below = stands.below;
-  now = all-get (FitOver schema told) (before.past ++ before.layers ∷ []) mark after.layers (all-push (FitOver schema told) before.past before.layers stands.past stands.now) back.layers;
-  past = subst (AllByRecursion (FitOver schema told)) (sym back.past) (all-take (FitOver schema told) mark before.past stands.past);
+  now = all-get (FitOver schema connected.told) (before.past ++ before.layers ∷ []) mark after.layers (all-push (FitOver schema connected.told) before.past before.layers stands.past stands.now) back.layers;
+  past = subst (AllByRecursion (FitOver schema connected.told)) (sym back.past) (all-take (FitOver schema connected.told) mark before.past stands.past);
 }
 
 -- a call below that leaves the told tables, and what is attached, leaves what stands
-pub kept_stands : (schema : Schema) (attached attached_now : Option Layout) (told told_now : Option Tables) (held : Held) → attached_now ≡ attached → told_now ≡ told → Stands schema attached told held → Stands schema attached_now told_now held
-kept_stands schema attached attached_now told told_now held attached_is told_is stands =
-    subst (λ (t : Option Tables). Stands schema attached_now t held) (sym told_is) (subst (λ (a : Option Layout). Stands schema a told held) (sym attached_is) stands)
+pub kept_stands : (schema : Schema) (held : Held) (connected now : Connected) → now.attached ≡ connected.attached → now.told ≡ connected.told → Stands schema held connected → Stands schema held now
+kept_stands schema held connected now attached_is told_is stands = record {
+  sound = stands.sound;
+  attached = ap (option_map (λ (a : Attached). a.layout)) attached_is ∙ stands.attached;
+  below = subst (λ (a : Option Attached). IfSome a (λ a. IfSome now.told (FitsSchema (shapes_of a.layout)))) (sym attached_is)
+      (subst (λ (t : Option Tables). IfSome connected.attached (λ a. IfSome t (FitsSchema (shapes_of a.layout)))) (sym told_is) stands.below);
+  now = subst (λ (t : Option Tables). FitOver schema t held.layers) (sym told_is) stands.now;
+  past = subst (λ (t : Option Tables). AllByRecursion (FitOver schema t) held.past) (sym told_is) stands.past;
+}
 
 -- ---- reading
 
@@ -186,19 +235,19 @@ read_told schema layers tables table chosen found rows sound fit below (inr laid
     ∙ laid_seen (table_at schema table) (layers table).entries chosen (rows_in tables table) (fit.order table) reads.own reads.sorted
     ∙ ap (filter chosen) (sym reads.over)
 
-pub load_gives : (schema : Schema) (attached : Option Layout) (told : Option Tables) (held : Held) (table : ℕ) (columns : List ℕ) (keys found rows : List Row) → Stands schema attached told held
+pub load_gives : (schema : Schema) (told : Option Tables) (held : Held) (table : ℕ) (columns : List ℕ) (keys found rows : List Row) → Standing schema told held
     → LiesOver (table_at schema table) (held.layers table).entries (is_wanted columns keys) found rows → IfSome told (λ tables. found ≡ rows_at columns keys table tables)
     → IfSome (option_map (seen schema held.layers) told) (λ tables. rows ≡ rows_at columns keys table tables)
-load_gives schema attached None held table columns keys found rows stands lies is = tt
-load_gives schema attached (Some tables) held table columns keys found rows stands lies is =
-    read_told schema held.layers tables table (is_wanted columns keys) found rows stands.sound stands.now.0 (below_fits schema attached tables stands.attached_is stands.below) lies is
+load_gives schema None held table columns keys found rows stands lies is = tt
+load_gives schema (Some tables) held table columns keys found rows stands lies is =
+    read_told schema held.layers tables table (is_wanted columns keys) found rows stands.sound stands.now.0 stands.below lies is
 
-pub scan_gives : (schema : Schema) (attached : Option Layout) (told : Option Tables) (held : Held) (table : ℕ) (found rows : List Row) → Stands schema attached told held
+pub scan_gives : (schema : Schema) (told : Option Tables) (held : Held) (table : ℕ) (found rows : List Row) → Standing schema told held
     → LiesOver (table_at schema table) (held.layers table).entries (λ row. true) found rows → IfSome told (λ tables. found ≡ rows_in tables table)
     → IfSome (option_map (seen schema held.layers) told) (λ tables. rows ≡ rows_in tables table)
-scan_gives schema attached None held table found rows stands lies is = tt
-scan_gives schema attached (Some tables) held table found rows stands lies is =
-    read_told schema held.layers tables table (λ row. true) found rows stands.sound stands.now.0 (below_fits schema attached tables stands.attached_is stands.below) lies (is ∙ sym (filter_true (rows_in tables table)))
+scan_gives schema None held table found rows stands lies is = tt
+scan_gives schema (Some tables) held table found rows stands lies is =
+    read_told schema held.layers tables table (λ row. true) found rows stands.sound stands.now.0 stands.below lies (is ∙ sym (filter_true (rows_in tables table)))
     ∙ filter_true (rows_in (seen schema held.layers tables) table)
 
 -- ---- rows that fit
@@ -234,15 +283,12 @@ present_fit schema table (e ∷ entries) sound b kind fit = by_now b kind e.1 (s
         (pair_fits schema.choices (table_at schema table).columns shape.first shape.second (pair_of e.0).0 (pair_of e.0).1 shape.columns (and_parts (is_link schema table) _ fits.0.0).1))
         later
 
-pub read_fits : (schema : Schema) (attached : Option Layout) (told : Option Tables) (held : Held) (table : ℕ) (chosen : Row → Bool) (found rows : List Row) → Stands schema attached told held
+pub read_fits : (schema : Schema) (told : Option Tables) (held : Held) (table : ℕ) (chosen : Row → Bool) (found rows : List Row) → Standing schema told held
     → LiesOver (table_at schema table) (held.layers table).entries chosen found rows → list_all (RowFits schema table) found ≡ true → list_all (RowFits schema table) rows ≡ true
-read_fits schema attached told held table chosen found rows stands (inl (none, same)) fit = ap (list_all (RowFits schema table)) same ∙ fit
-read_fits schema attached told held table chosen found rows stands (inr laid) fit =
+read_fits schema told held table chosen found rows stands (inl (none, same)) fit = ap (list_all (RowFits schema table)) same ∙ fit
+read_fits schema told held table chosen found rows stands (inr laid) fit =
     ap (list_all (RowFits schema table)) laid
     ∙ all_laid (RowFits schema table) (table_at schema table) (held.layers table).entries chosen found fit (present_fit schema table (held.layers table).entries stands.sound (is_link schema table) refl (stands.now.0.entries table))
-
-pub of_schema : (schema : Schema) (attached : Option Layout) (P : Schema → Type 0) → attached ≡ Some (layout_of schema) → OfShapes attached P → P (shapes_of (layout_of schema))
-of_schema schema attached P is holds = subst (λ (a : Option Layout). OfShapes a P) is holds
 
 -- ---- counters
 
@@ -257,9 +303,9 @@ last_whole : (schema : Schema) (table : ℕ) (last : Option ℤ) (below : ℤ) �
 last_whole schema table None below right whole = whole
 last_whole schema table (Some raised) below right whole = int_max_whole raised below (not_true (int_lt raised (pos 0)) (and_parts (is_model schema table) (not (int_lt raised (pos 0))) right).1) whole
 
-pub last_gives : (schema : Schema) (attached : Option Layout) (told : Option Tables) (held : Held) (table : ℕ) (below last : ℤ) → Stands schema attached told held → last ≡ over_last (held.layers table).last below
+pub last_gives : (schema : Schema) (told : Option Tables) (held : Held) (table : ℕ) (below last : ℤ) → Standing schema told held → last ≡ over_last (held.layers table).last below
     → (int_lt below (pos 0) ≡ false) × IfSome told (λ tables. below ≡ tables.last table) → (int_lt last (pos 0) ≡ false) × IfSome (option_map (seen schema held.layers) told) (λ tables. last ≡ tables.last table)
-last_gives schema attached told held table below last stands is gives =
+last_gives schema told held table below last stands is gives =
     (ap (λ l. int_lt l (pos 0)) is ∙ last_whole schema table (held.layers table).last below (stands.now.0.counters table) gives.0, by_told told gives.1)
   where
     by_told : (told : Option Tables) → IfSome told (λ tables. below ≡ tables.last table) → IfSome (option_map (seen schema held.layers) told) (λ tables. last ≡ tables.last table)
@@ -268,45 +314,65 @@ last_gives schema attached told held table below last stands is gives =
 
 -- ---- the changes of a view
 
-abbrev pub ViewChanges : Schema → Option Layout → Option Tables → (Tables → Tables) → Held → Held → Type 0
-ViewChanges schema attached told f held after = (versions_over schema told after ≡ changed f (versions_over schema told held)) × Stands schema attached told after
+abbrev pub ViewChanges : Schema → Connected → (Tables → Tables) → Held → Held → Type 0
+ViewChanges schema connected f held after = (viewed schema after connected ≡ changed f (viewed schema held connected)) × Stands schema after connected
 
-module _ (schema : Schema) (attached : Option Layout) (told : Option Tables) (held after : Held) (stands : Stands schema attached told held) where
+-- what succeeds without a call below
+pub no_cause : (faults : Faults) (unit : Unit {0}) → HasCause faults faults (IsErrOf {T = Unit {0}} {E = ConnFault} (Ok unit) Failed)
+no_cause faults unit = record {
+  counted = record { later = omega arith; rose = λ failed. absurd (not_failed failed); still = λ fine. refl };
+  never = λ sure. (not_failed, refl);
+}
+  where
+    not_failed : IsErrOf {T = Unit {0}} {E = ConnFault} (Ok unit) Failed → ⊥
+    not_failed failed = absurd (let h = failed in cc)
+
+none_failed : (connected : Connected) → HasCauses {T = Unit {0}} connected connected (Ok tt)
+none_failed connected = record {
+  failed = no_cause connected.faults tt;
+  misfit = record { later = omega arith; rose = λ failed. absurd failed; still = λ fine. refl };
+  tells = λ told failed. failed;
+}
+
+pub made : (schema : Schema) (connected : Connected) (f : Tables → Tables) (held after : Held) → ViewChanges schema connected f held after → Changes f (viewed schema held connected) (viewed schema after connected) (Ok tt)
+made schema connected f held after all = record { causes = none_failed connected; column = tt; calls = refl; ok = all.0; err = tt }
+
+module _ (schema : Schema) (connected : Connected) (held after : Held) (stands : Stands schema held connected) where
   pub put_changes : (table : TableId) (row id : Row) → id ≡ id_row (table_at schema table.0) row → after ≡ entered table.0 id (Some row) held → is_row_of schema table.0 row ≡ true
-      → LeadsToFit schema (after_change schema (change.Put table row)) (option_map (seen schema held.layers) told) → ViewChanges schema attached told (after_change schema (change.Put table row)) held after
+      → LeadsFit schema (after_change schema (change.Put table row)) (option_map (seen schema held.layers) connected.told) → ViewChanges schema connected (after_change schema (change.Put table row)) held after
   put_changes table row id id_is is right fits =
       let new = with_layer table.0 (with_entry (id_row (table_at schema table.0) row) (Some row) (held.layers table.0)) held.layers in
       let new_is = is ∙ ap (λ (k : Row). entered table.0 k (Some row) held) id_is in
       let fit = put_fits schema held.layers stands.now.0 table row right (have_ids schema stands.sound table.0 row right) in
       let leads = λ (tables : Tables) (below : FitsSchema schema tables). put_is schema held.layers stands.now.0 tables below table row right in
-      (versions_changed schema attached held after new (after_change schema (change.Put table row)) new_is fit leads told stands, change_stands schema attached held after new (after_change schema (change.Put table row)) new_is fit leads told stands fits)
+      (viewed_changed schema held after new (after_change schema (change.Put table row)) new_is fit leads connected stands, change_stands schema held after new (after_change schema (change.Put table row)) new_is fit leads connected stands fits)
 
   pub remove_changes : (table : TableId) (asked id : Row) → id ≡ asked → after ≡ entered table.0 id None held → is_id_of schema table.0 asked ≡ true
-      → LeadsToFit schema (after_change schema (change.Remove table asked)) (option_map (seen schema held.layers) told) → ViewChanges schema attached told (after_change schema (change.Remove table asked)) held after
+      → LeadsFit schema (after_change schema (change.Remove table asked)) (option_map (seen schema held.layers) connected.told) → ViewChanges schema connected (after_change schema (change.Remove table asked)) held after
   remove_changes table asked id id_is is right fits =
       let new = with_layer table.0 (with_entry asked None (held.layers table.0)) held.layers in
       let new_is = is ∙ ap (λ (k : Row). entered table.0 k None held) id_is in
       let fit = remove_fits schema held.layers stands.now.0 table asked right in
       let leads = λ (tables : Tables) (below : FitsSchema schema tables). remove_is schema held.layers stands.now.0 tables below table asked right in
-      (versions_changed schema attached held after new (after_change schema (change.Remove table asked)) new_is fit leads told stands, change_stands schema attached held after new (after_change schema (change.Remove table asked)) new_is fit leads told stands fits)
+      (viewed_changed schema held after new (after_change schema (change.Remove table asked)) new_is fit leads connected stands, change_stands schema held after new (after_change schema (change.Remove table asked)) new_is fit leads connected stands fits)
 
   pub link_changes : (table : TableId) (a b : Value) (pair : Row) → pair ≡ pair_row (a, b) → after ≡ entered table.0 pair (Some pair) held → is_pair_of schema table.0 a b ≡ true
-      → LeadsToFit schema (after_change schema (change.Link table a b)) (option_map (seen schema held.layers) told) → ViewChanges schema attached told (after_change schema (change.Link table a b)) held after
+      → LeadsFit schema (after_change schema (change.Link table a b)) (option_map (seen schema held.layers) connected.told) → ViewChanges schema connected (after_change schema (change.Link table a b)) held after
   link_changes table a b pair pair_is is right fits =
       let new = with_layer table.0 (with_entry (pair_row (a, b)) (Some (pair_row (a, b))) (held.layers table.0)) held.layers in
       let new_is = is ∙ ap (λ (k : Row). entered table.0 k (Some k) held) pair_is in
       let fit = link_fits schema held.layers stands.now.0 table (a, b) right in
       let leads = λ (tables : Tables) (below : FitsSchema schema tables). link_is schema held.layers stands.now.0 tables below stands.sound table (a, b) right in
-      (versions_changed schema attached held after new (after_change schema (change.Link table a b)) new_is fit leads told stands, change_stands schema attached held after new (after_change schema (change.Link table a b)) new_is fit leads told stands fits)
+      (viewed_changed schema held after new (after_change schema (change.Link table a b)) new_is fit leads connected stands, change_stands schema held after new (after_change schema (change.Link table a b)) new_is fit leads connected stands fits)
 
   pub unlink_changes : (table : TableId) (a b : Value) (pair : Row) → pair ≡ pair_row (a, b) → after ≡ entered table.0 pair None held → is_pair_of schema table.0 a b ≡ true
-      → LeadsToFit schema (after_change schema (change.Unlink table a b)) (option_map (seen schema held.layers) told) → ViewChanges schema attached told (after_change schema (change.Unlink table a b)) held after
+      → LeadsFit schema (after_change schema (change.Unlink table a b)) (option_map (seen schema held.layers) connected.told) → ViewChanges schema connected (after_change schema (change.Unlink table a b)) held after
   unlink_changes table a b pair pair_is is right fits =
       let new = with_layer table.0 (with_entry (pair_row (a, b)) None (held.layers table.0)) held.layers in
       let new_is = is ∙ ap (λ (k : Row). entered table.0 k None held) pair_is in
       let fit = unlink_fits schema held.layers stands.now.0 table (a, b) right in
       let leads = λ (tables : Tables) (below : FitsSchema schema tables). unlink_is schema held.layers stands.now.0 tables below stands.sound table (a, b) right in
-      (versions_changed schema attached held after new (after_change schema (change.Unlink table a b)) new_is fit leads told stands, change_stands schema attached held after new (after_change schema (change.Unlink table a b)) new_is fit leads told stands fits)
+      (viewed_changed schema held after new (after_change schema (change.Unlink table a b)) new_is fit leads connected stands, change_stands schema held after new (after_change schema (change.Unlink table a b)) new_is fit leads connected stands fits)
 
 -- the schema has the table of a row
 model_there : (tables : List Table) (table : ℕ) → is_model_table (slice_get tables table) ≡ true → nat_lt table (length tables) ≡ true
@@ -340,11 +406,11 @@ raised_right schema table last (Some raised) right right_before =
     both (is_model schema table) (not (int_lt (int_max last raised) (pos 0))) one.0
     (ap not (int_max_whole last raised (not_true (int_lt last (pos 0)) one.1) (not_true (int_lt raised (pos 0)) other.1)))
 
-pub raise_changes : (schema : Schema) (attached : Option Layout) (told : Option Tables) (held after : Held) → Stands schema attached told held → (table : TableId) (last : ℤ) → after ≡ raised table.0 last held → is_last_of schema table.0 last ≡ true
-    → LeadsToFit schema (after_change schema (change.Counter table last)) (option_map (seen schema held.layers) told) → ViewChanges schema attached told (after_change schema (change.Counter table last)) held after
-raise_changes schema attached told held after stands table last is right fits =
+pub raise_changes : (schema : Schema) (connected : Connected) (held after : Held) → Stands schema held connected → (table : TableId) (last : ℤ) → after ≡ raised table.0 last held → is_last_of schema table.0 last ≡ true
+    → LeadsFit schema (after_change schema (change.Counter table last)) (option_map (seen schema held.layers) connected.told) → ViewChanges schema connected (after_change schema (change.Counter table last)) held after
+raise_changes schema connected held after stands table last is right fits =
     let layer = with_raised last (held.layers table.0) in
     let new = with_layer table.0 layer held.layers in
     let fit = still_fit schema held.layers no_rows table.0 layer stands.now.0 (stands.now.0.order table.0) (stands.now.0.entries table.0) (raised_right schema table.0 last (held.layers table.0).last right (stands.now.0.counters table.0)) in
     let leads = λ (tables : Tables) (below : FitsSchema schema tables). last_changed schema held.layers tables table.0 layer (int_max last (over_last (held.layers table.0).last (tables.last table.0))) refl (raised_once (tables.last table.0) last (held.layers table.0).last) in
-    (versions_changed schema attached held after new (after_change schema (change.Counter table last)) is fit leads told stands, change_stands schema attached held after new (after_change schema (change.Counter table last)) is fit leads told stands fits)
+    (viewed_changed schema held after new (after_change schema (change.Counter table last)) is fit leads connected stands, change_stands schema held after new (after_change schema (change.Counter table last)) is fit leads connected stands fits)

@@ -12,11 +12,11 @@ use Rattle.qe_schema.specs.Fits.{FitsSchema}
 use Rattle.qe_schema.specs.Tables.{Tables, table_at, is_link, id_of}
 use Rattle.qe_view.specs.After.{pair_row}
 use Rattle.qe_view.specs.Right.{is_row_of, is_id_of, is_pair_of, is_last_of}
-use Rattle.qe_view.specs.Attached.{FitLayout}
+use Rattle.qe_view.specs.Attached.{Attached, Connected, FitLayout}
 use Rattle.qe_view.specs.Layouts.{Layout, layout_of}
-use Rattle.qe_view.specs.Versions.{Versions}
+use Rattle.qe_view.specs.Versions.{Viewed}
 use Rattle.qe_base.specs.declared.value.TableId.{TableId}
-use Rattle.qe_overlay.specs.Held.{Held, held_in, narrowed, none_kept}
+use Rattle.qe_overlay.specs.Held.{Held, KeptLayers, held_in, narrowed, none_kept}
 use Rattle.qe_overlay.specs.Laid.{laid_over}
 use Rattle.qe_overlay.specs.Layers.{Entry, Layers, pair_of, seen}
 
@@ -45,30 +45,46 @@ pub record LayersFit (schema : Schema) (layers : Layers) : Type 0 where
 abbrev pub FitOver : Schema → Option Tables → Layers → Type 0
 FitOver schema told layers = LayersFit schema layers × IfSome told (λ tables. FitsSchema schema (seen schema layers tables))
 
--- the told tables below, seen through the layers now and before each change, and as they are
-abbrev pub versions_over : Schema → Option Tables → Held → Versions
-versions_over schema told held = record { now = option_map (seen schema held.layers) told; past = map (λ layers. option_map (seen schema layers) told) held.past; below = told }
+-- attached with this layout
+abbrev pub HasLayout : Connected → Layout → Type 0
+HasLayout connected layout = option_map (λ (attached : Attached). attached.layout) connected.attached ≡ Some layout
+
+-- the tables below where they are told, seen through the layers now and before each change
+abbrev pub viewed : Schema → Held → Connected → Viewed
+viewed schema held connected = record {
+  schema = schema;
+  now = option_map (seen schema held.layers) connected.told;
+  past = map (λ layers. option_map (seen schema layers) connected.told) held.past;
+  below = connected;
+}
+
+-- the same of what is kept of an overlay
+abbrev pub viewed_by : Schema → KeptLayers → Connected → Viewed
+viewed_by schema kept connected = viewed schema (held_in kept) connected
 
 -- what is below is attached with the layout of the schema, and all layers fit
-pub record Stands (schema : Schema) (attached : Option Layout) (told : Option Tables) (held : Held) : Type 0 where
+pub record Stands (schema : Schema) (held : Held) (connected : Connected) : Type 0 where
   pub sound : IsSound schema
-  pub attached_is : attached ≡ Some (layout_of schema)
-  pub below : FitLayout attached told
-  pub now : FitOver schema told held.layers
-  pub past : AllByRecursion (FitOver schema told) held.past
+  pub attached : HasLayout connected (layout_of schema)
+  pub below : FitLayout connected
+  pub now : FitOver schema connected.told held.layers
+  pub past : AllByRecursion (FitOver schema connected.told) held.past
 
 -- rows that nothing is entered over stay as they are
 abbrev pub LiesOver : Table → List Entry → (Row → Bool) → List Row → List Row → Type 0
 LiesOver table entries chosen rows seen = ((entries ≡ []) × (seen ≡ rows)) ⊎ (seen ≡ laid_over table entries chosen rows)
 
 -- the told tables that are seen fit
-pub stands_fit : (schema : Schema) (attached : Option Layout) (told : Option Tables) (held : Held) → Stands schema attached told held → IfSome (versions_over schema told held).now (FitsSchema schema)
-stands_fit schema attached None held stands = tt
-stands_fit schema attached (Some tables) held stands = stands.now.1
+seen_fit : (schema : Schema) (told : Option Tables) (layers : Layers) → FitOver schema told layers → IfSome (option_map (seen schema layers) told) (FitsSchema schema)
+seen_fit schema None layers fit = tt
+seen_fit schema (Some tables) layers fit = fit.1
+
+pub stands_fit : (schema : Schema) (held : Held) (connected : Connected) → Stands schema held connected → IfSome (viewed schema held connected).now (FitsSchema schema)
+stands_fit schema held connected stands = seen_fit schema connected.told held.layers stands.now
 
 -- an overlay without changes stands over what is attached with the layout of the schema
 abbrev pub EmptyStands : Type 0
-EmptyStands = (schema : Schema) (attached : Option Layout) (told : Option Tables) → IsSound schema → attached ≡ Some (layout_of schema) → FitLayout attached told → Stands schema attached told (held_in none_kept)
+EmptyStands = (schema : Schema) (connected : Connected) → IsSound schema → HasLayout connected (layout_of schema) → FitLayout connected → Stands schema (held_in none_kept) connected
 
 -- of layers that fit, those of some tables fit too
 abbrev pub NarrowedFit : Type 0

@@ -1,5 +1,6 @@
 -- The changes that make of the tables below those that are seen.
-use Rattle.std.specs.Prelude.{◌≡◌, ℕ, ℤ, Bool, true, List, [], ◌∷◌, ◌++◌, Option, Some, None, suc, if◌then◌else◌}
+use Rattle.std.specs.Prelude.{◌≡◌, ◌⊎◌, ℕ, ℤ, Bool, true, List, [], ◌∷◌, ◌++◌, Option, Some, None, suc, if◌then◌else◌, Result, Ok, OnOk, OnErr, IsErrOf}
+use Rattle.qe_base.specs.Causes.{HasCause}
 use Rattle.qe_base.specs.declared.value.Row.{Row}
 use Rattle.qe_base.specs.declared.value.TableId.{TableId}
 use Rattle.qe_base.specs.Schemas.{Schema}
@@ -8,8 +9,14 @@ use Rattle.qe_schema.specs.Columns.{value_at}
 use Rattle.qe_schema.specs.Fits.{FitsSchema}
 use Rattle.qe_schema.specs.Tables.{Tables, is_link}
 use Rattle.qe_view.specs.After.{after_all}
+use Rattle.qe_view.specs.Answers.{IsMisfit, Applies}
+use Rattle.qe_view.specs.Attached.{Connected}
+use Rattle.qe_view.specs.Calls.{with_apply}
 use Rattle.qe_view.specs.Right.{are_right, AreFree}
+use Rattle.qe_view.specs.Versions.{Viewed}
 use Rattle.qe_view.specs.declared.changes.Change.{Change}
+use Rattle.qe_view.specs.declared.changes.ConnFault.{ConnFault}
+use Rattle.qe_view.specs.declared.changes.ConnFault.TheVariants.{Failed}
 use Rattle.qe_view.specs.declared.changes.Change.TheVariants.{Remove, Put, Unlink, Link, Counter}
 use Rattle.qe_overlay.specs.Fits.{LayersFit}
 use Rattle.qe_overlay.specs.Layers.{Entry, Layer, Layers, seen}
@@ -63,3 +70,17 @@ abbrev pub SettlesBelow : Schema → Layers → List Change → Type 0
 SettlesBelow schema layers changes =
     IsSound schema → LayersFit schema layers
     → (are_right schema changes ≡ true) × ((tables : Tables) → FitsSchema schema tables → (after_all schema changes tables ≡ seen schema layers tables) × AreFree schema changes tables)
+
+-- there were no changes, and nothing was done, or the changes were applied
+abbrev pub AppliesAny : List Change → Connected → Connected → Result (Unit {0}) ConnFault → Type 0
+AppliesAny changes before after result = ((changes ≡ []) × (after ≡ before) × (result ≡ Ok tt)) ⊎ Applies changes before after result
+
+-- What was seen is what is told below, and can't be taken back; or after a refusal all is as it was. At most one
+-- call was made below, which applied the changes.
+pub record Settles (before after : Viewed) (result : Result (Unit {0}) ConnFault) : Type 0 where
+  pub ok : OnOk result ((after.now ≡ before.now) × (after.past ≡ []) × (after.below.told ≡ before.now))
+  pub err : OnErr result ((after.now ≡ before.now) × (after.past ≡ before.past) × (after.below.told ≡ before.below.told))
+  pub cause : HasCause before.below.faults after.below.faults (IsErrOf result Failed)
+  pub misfit : IsMisfit result → ⊥
+  pub applied : ((after.below.calls ≡ before.below.calls) × (after.below.told ≡ before.below.told)) ⊎ (after.below.calls ≡ with_apply before.below.calls)
+  pub others : after ≡ record before { now = after.now; past = after.past; below = record before.below { told = after.below.told; faults = after.below.faults; calls = after.below.calls } }

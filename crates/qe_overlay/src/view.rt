@@ -1,25 +1,24 @@
 //! The tables of a connector, seen through an overlay.
-ghost use Rattle.std.specs.Prelude.{◌≡◌, true, false, [], option_map, IsErrOf, OnOk, OnErr};
-ghost use Rattle.qe_base.specs.Causes.{HasCause};
-ghost use Rattle.qe_view.specs.After.{after_all};
-ghost use Rattle.qe_view.specs.Answers.{IsMisfit};
-ghost use Rattle.qe_view.specs.Calls.{AtMost, with_apply};
+ghost use Rattle.std.specs.Prelude.{◌≡◌, true, [], OnOk, OnErr};
+ghost use Rattle.qe_view.specs.Attached.{FitLayout, CanApply};
 ghost use Rattle.qe_view.specs.Right.{has_table};
 ghost use Rattle.qe_schema.specs.Tables.{table_at};
-ghost use Rattle.qe_view.specs.Attached.{FitLayout, CanApply, OfShapes};
+ghost use Rattle.qe_overlay.specs.Held.{none_kept};
+ghost use Rattle.qe_overlay.specs.Settled.{AppliesAny, Settles};
 
 use crate::layer::id_columns;
 use crate::overlay::Overlay;
-use qe_base::{Row, Rows, Table, TableId, Value};
+use qe_base::{Row, Rows, Shared, Table, TableId, Value};
 use qe_schema::Schema;
 use qe_text::{Items, Memory};
 use qe_view::{Change, ConnFault, Connector, Mark, View, id_row, pair_row};
+use std::mem;
 
-/// The tables that a connector keeps, with the changes of an overlay. Changes stay in the overlay, and each
-/// reading makes one call below.
+/// The tables of a schema that a connector keeps, with the changes of an overlay. Changes stay in the overlay, and
+/// each reading makes one call below.
 #[derive(Drop)]
-pub struct OverlayView<'s, C> {
-    schema: &'s Schema,
+pub struct OverlayView<C> {
+    schema: Shared<Schema>,
     overlay: Overlay,
     below: C,
 }
@@ -34,17 +33,10 @@ fn shape_of(schema: &Schema, table: TableId) -> &Table
 
 /// Makes changes, if there are any.
 fn apply_any<C: Connector>(below: &mut C, changes: &Items<Change>) -> Result<(), ConnFault>
-    requires can { CanApply (C.attached below.old) (C.told below.old) changes.now }
-    requires fits { FitLayout (C.attached below.old) (C.told below.old) }
-    ensures ok { OnOk result (OfShapes (C.attached below.old) (λ shapes. C.told below.new ≡ option_map (after_all shapes changes.now) (C.told below.old))) }
-    ensures err { OnErr result (C.told below.new ≡ C.told below.old) }
-    ensures attached { C.attached below.new ≡ C.attached below.old }
-    ensures fits { FitLayout (C.attached below.new) (C.told below.new) }
-    ensures cause { HasCause (C.may_fail below.old) (C.fault_count below.old) (C.fault_count below.new) (IsErrOf result ConnFault.Failed) }
-    ensures misfits { (IsMisfit result → ⊥) × (C.misfit_count below.new ≡ C.misfit_count below.old) }
-    ensures sure { C.may_fail below.old ≡ false → C.may_fail below.new ≡ false }
-    ensures calls { AtMost with_apply (C.calls below.old) (C.calls below.new) }
-    ensures none { changes.now ≡ [] → C.calls below.new ≡ C.calls below.old }
+    requires can { CanApply (C.seen below.old) changes.now }
+    requires fits { FitLayout (C.seen below.old) }
+    ensures applies { AppliesAny changes.now (C.seen below.old) (C.seen below.new) result }
+    ensures none { changes.now ≡ [] → C.seen below.new ≡ C.seen below.old }
 {
     if changes.is_empty() {
         return Ok(());
@@ -52,10 +44,10 @@ fn apply_any<C: Connector>(below: &mut C, changes: &Items<Change>) -> Result<(),
     below.apply(changes.as_slice())
 }
 
-impl<'s, C> OverlayView<'s, C> {
+impl<C> OverlayView<C> {
     /// The tables below with what the overlay holds.
-    pub fn over(schema: &'s Schema, overlay: Overlay, below: C) -> OverlayView<'s, C>
-        ensures schema { result.schema.now ≡ schema.now }
+    pub fn over(schema: Shared<Schema>, overlay: Overlay, below: C) -> OverlayView<C>
+        ensures schema { result.schema ≡ schema }
         ensures overlay { result.overlay ≡ overlay }
         ensures below { result.below ≡ below }
     {
@@ -68,67 +60,80 @@ impl<'s, C> OverlayView<'s, C> {
 
     /// The overlay, and what is below.
     pub fn release(self) -> (Overlay, C)
-        ensures overlay { result.0 ≡ self.entry.overlay }
-        ensures below { result.1 ≡ self.entry.below }
+        ensures overlay { result.0 ≡ self.overlay }
+        ensures below { result.1 ≡ self.below }
     {
         let OverlayView {
-            schema: _,
+            schema: _schema,
             overlay,
             below,
         } = self;
         (overlay, below)
     }
+
+    /// The schema of the tables.
+    pub fn schema(&self) -> &Schema
+        ensures { result.now ≡ self.now.schema }
+    {
+        self.schema.get()
+    }
+
+    /// Exchanges the overlay with another.
+    pub fn swap(&mut self, other: &mut Overlay)
+        ensures given { other.new ≡ self.old.overlay }
+        ensures overlay { self.new.overlay ≡ other.old }
+        ensures schema { self.new.schema ≡ self.old.schema }
+        ensures below { self.new.below ≡ self.old.below }
+    {
+        mem::swap(&mut self.overlay, other);
+    }
+
+    /// Forgets all changes. It takes no memory.
+    pub fn forget(&mut self)
+        ensures overlay { self.new.overlay ≡ none_kept }
+        ensures schema { self.new.schema ≡ self.old.schema }
+        ensures below { self.new.below ≡ self.old.below }
+    {
+        self.overlay.clear();
+    }
 }
 
-impl<'s, C: Connector> OverlayView<'s, C> {
-    ghost use Rattle.qe_overlay.specs.Fits.{Stands, versions_over};
+impl<C: Connector> OverlayView<C> {
+    ghost use Rattle.qe_overlay.specs.Fits.{Stands, viewed_by};
     ghost use Rattle.qe_overlay.specs.Held.{held_in};
     ghost use Rattle.qe_overlay.specs.Layers.{no_layers};
 
     /// Makes all changes below, or none of them, by one call if there are any. After a refusal they are still
     /// in the overlay.
     pub fn settle(&mut self) -> Result<(), ConnFault>
-        requires stands { Stands self.old.schema.now (C.attached self.old.below) (C.told self.old.below) (held_in self.old.overlay) }
-        ensures ok { OnOk result (versions_over self.new.schema.now (C.told self.new.below) (held_in self.new.overlay) ≡ record { now = (versions_over self.old.schema.now (C.told self.old.below) (held_in self.old.overlay)).now; past = []; below = (versions_over self.old.schema.now (C.told self.old.below) (held_in self.old.overlay)).now }) }
-        ensures err { OnErr result (versions_over self.new.schema.now (C.told self.new.below) (held_in self.new.overlay) ≡ versions_over self.old.schema.now (C.told self.old.below) (held_in self.old.overlay)) }
-        ensures schema { self.new.schema.now ≡ self.old.schema.now }
-        ensures stands { Stands self.new.schema.now (C.attached self.new.below) (C.told self.new.below) (held_in self.new.overlay) }
-        ensures cause { HasCause (C.may_fail self.old.below) (C.fault_count self.old.below) (C.fault_count self.new.below) (IsErrOf result ConnFault.Failed) }
-        ensures misfits { (IsMisfit result → ⊥) × (C.misfit_count self.new.below ≡ C.misfit_count self.old.below) }
-        ensures sure { C.may_fail self.old.below ≡ false → C.may_fail self.new.below ≡ false }
-        ensures calls { AtMost with_apply (C.calls self.old.below) (C.calls self.new.below) }
-        ensures idle { (held_in self.old.overlay).layers ≡ no_layers → C.calls self.new.below ≡ C.calls self.old.below }
+        requires { Stands self.old.schema (held_in self.old.overlay) (C.seen self.old.below) }
+        ensures settles { Settles (viewed_by self.old.schema self.old.overlay (C.seen self.old.below)) (viewed_by self.new.schema self.new.overlay (C.seen self.new.below)) result }
+        ensures empty { OnOk result (self.new.overlay ≡ none_kept) }
+        ensures kept { OnErr result (held_in self.new.overlay ≡ held_in self.old.overlay) }
+        ensures stands { Stands self.new.schema (held_in self.new.overlay) (C.seen self.new.below) }
+        ensures schema { self.new.schema ≡ self.old.schema }
+        ensures idle { (held_in self.old.overlay).layers ≡ no_layers → (C.seen self.new.below).calls ≡ (C.seen self.old.below).calls }
     {
-        let changes = self.overlay.changes(self.schema)?;
+        let changes = self.overlay.changes(self.schema.get())?;
         apply_any(&mut self.below, &changes)?;
         self.overlay.clear();
         Ok(())
     }
 }
 
-impl<'s, C: Connector> View for OverlayView<'s, C> {
-    ghost use Rattle.qe_overlay.specs.Fits.{Stands, versions_over, stands_fit};
+impl<C: Connector> View for OverlayView<C> {
+    ghost use Rattle.qe_overlay.specs.Fits.{Stands, viewed, stands_fit};
     ghost use Rattle.qe_overlay.specs.Held.{held_in};
 
-    ghost schema = { λ v. v.schema.now };
+    ghost seen = { λ v. viewed v.schema (held_in v.overlay) (C.seen v.below) };
 
-    ghost versions = { λ v. versions_over v.schema.now (C.told v.below) (held_in v.overlay) };
+    ghost stands = { λ v. Stands v.schema (held_in v.overlay) (C.seen v.below) };
 
-    ghost stands = { λ v. Stands v.schema.now (C.attached v.below) (C.told v.below) (held_in v.overlay) };
-
-    ghost fault_count = { λ v. C.fault_count v.below };
-
-    ghost misfit_count = { λ v. C.misfit_count v.below };
-
-    ghost may_fail = { λ v. C.may_fail v.below };
-
-    ghost calls = { λ v. C.calls v.below };
-
-    ghost fits = { λ v s. stands_fit v.schema.now (C.attached v.below) (C.told v.below) (held_in v.overlay) s };
+    ghost fits = { λ v s. stands_fit v.schema (held_in v.overlay) (C.seen v.below) s };
 
     fn load(&mut self, table: TableId, columns: &[u16], keys: &[Row]) -> Result<Rows, ConnFault> {
         let found = self.below.load(table, columns, keys)?;
-        let shape = shape_of(self.schema, table);
+        let shape = shape_of(self.schema.get(), table);
         let rows = self
             .overlay
             .wanted_over(table, shape, columns, keys, found)?;
@@ -137,7 +142,7 @@ impl<'s, C: Connector> View for OverlayView<'s, C> {
 
     fn scan(&mut self, table: TableId) -> Result<Rows, ConnFault> {
         let found = self.below.scan(table)?;
-        let shape = shape_of(self.schema, table);
+        let shape = shape_of(self.schema.get(), table);
         let rows = self.overlay.all_over(table, shape, found)?;
         Ok(rows)
     }
@@ -148,7 +153,7 @@ impl<'s, C: Connector> View for OverlayView<'s, C> {
     }
 
     fn put(&mut self, table: TableId, row: Row) -> Result<(), ConnFault> {
-        let shape = shape_of(self.schema, table);
+        let shape = shape_of(self.schema.get(), table);
         let id = id_row(self.overlay.allocator(), id_columns(shape), &row)?;
         self.overlay.put(table, id, row)?;
         Ok(())

@@ -6,15 +6,12 @@ use Rattle.qe_overlay.specs.Held.{held_in, raised}
 use Rattle.qe_overlay.proofs.Views.{raise_changes}
 use Rattle.qe_overlay.proofs.view.OverlayViewView.raise.Goals as goal
 
-pub returns-clause-changes : goal.returns-clause-changes
-returns-clause-changes g c = record {
-  ok = (raise_changes c.args.self.now.schema.now (g.C.Connector.attached c.args.self.now.below) (g.C.Connector.told c.args.self.now.below) (held_in c.args.self.now.overlay) (held_in c.raise.new.self) c.requires.stands c.args.table c.args.last
-      (c.in_ok-raise.ensures.ok ∙ ap (λ last. raised c.args.table.0 last (held_in c.args.self.now.overlay)) (to_z-of_z w64 c.args.last (let fits : SFits w64 c.args.last = search rules in fits)))
-      c.requires.right c.requires.fits).0;
-  err = tt;
-}
+pub returns-clause-ok : goal.returns-clause-ok
+returns-clause-ok g c = (raise_changes c.args.self.now.schema (g.C.Connector.seen c.args.self.now.below) (held_in c.args.self.now.overlay) (held_in c.raise.new.self) c.requires.stands c.args.table c.args.last
+    (c.in_ok-raise.ensures.ok ∙ ap (λ last. raised c.args.table.0 last (held_in c.args.self.now.overlay)) (to_z-of_z w64 c.args.last (let fits : SFits w64 c.args.last = search rules in fits)))
+    c.requires.right c.requires.fits).0
 
 pub returns-clause-stands : goal.returns-clause-stands
-returns-clause-stands g c = (raise_changes c.args.self.now.schema.now (g.C.Connector.attached c.args.self.now.below) (g.C.Connector.told c.args.self.now.below) (held_in c.args.self.now.overlay) (held_in c.raise.new.self) c.requires.stands c.args.table c.args.last
+returns-clause-stands g c = (raise_changes c.args.self.now.schema (g.C.Connector.seen c.args.self.now.below) (held_in c.args.self.now.overlay) (held_in c.raise.new.self) c.requires.stands c.args.table c.args.last
     (c.in_ok-raise.ensures.ok ∙ ap (λ last. raised c.args.table.0 last (held_in c.args.self.now.overlay)) (to_z-of_z w64 c.args.last (let fits : SFits w64 c.args.last = search rules in fits)))
     c.requires.right c.requires.fits).1
