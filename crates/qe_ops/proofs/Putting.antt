@@ -21,10 +21,10 @@ use Rattle.qe_schema.specs.Columns.{value_at}
 use Rattle.qe_schema.specs.Fits.{FitsSchema, Counts, at_number, counting, fit_columns, is_within}
 use Rattle.qe_schema.specs.Put.{broken_key, put_of, put_unless, raised, raised_at, raised_to}
 use Rattle.qe_schema.specs.Tables.{Tables, table_at, is_model, id_columns, with_last}
-use Rattle.qe_view.specs.Versions.{Versions, LeadsToFit, changed}
-use Rattle.qe_ops.specs.Leaves.{CanGoBack, ChangesTo}
+use Rattle.qe_view.specs.Versions.{Viewed, changed}
+use Rattle.qe_ops.specs.Leaves.{CanGoBack, ChangesTo, Same}
 use Rattle.qe_ops.specs.Puts.{IsUnheld, number_at, placed, raised_for, whole_number}
-use Rattle.qe_ops.proofs.Versions.{back_to_itself, back_over, reaches_over}
+use Rattle.qe_ops.proofs.Versions.{back_to_itself, back_over, from_same, reaches_over}
 
 -- ---- the greater of two numbers
 
@@ -80,13 +80,11 @@ each_told None P each = tt
 each_told (Some tables) P each = each tables
 
 -- a row without a number
-pub no_number : (versions after : Versions) (schema : Schema) (table : ℕ) (model : Table) (row : Row) → model ≡ table_at schema table → own_number model row ≡ None → after ≡ versions → ChangesTo (raised_for schema table row) versions after
-no_number versions after schema table model row model_is none same =
-    subst (ChangesTo (raised_for schema table row) versions) (sym same) (record {
-      now = unraised versions.now schema table row
-          (each_told versions.now _ (λ tables. raised_with (table_at schema table) row (tables.last table) None (subst (λ (m : Table). own_number m row ≡ None) model_is none)));
-      back = back_to_itself versions;
-    })
+pub no_number : (seen : Viewed) (schema : Schema) (table : ℕ) (model : Table) (row : Row) → model ≡ table_at schema table → own_number model row ≡ None → ChangesTo (raised_for schema table row) seen seen
+no_number seen schema table model row model_is none = record {
+  now = unraised seen.now schema table row (each_told seen.now _ (λ tables. raised_with (table_at schema table) row (tables.last table) None (subst (λ (m : Table). own_number m row ≡ None) model_is none)));
+  back = back_to_itself seen;
+}
 
 -- ---- the counter is raised
 
@@ -94,8 +92,12 @@ mapped_same : (one other : Tables → Tables) (told : Option Tables) → ((table
 mapped_same one other None is = refl
 mapped_same one other (Some tables) is = ap Some (is tables)
 
+-- the change leads to told tables that fit
+abbrev pub FitAfter : Schema → (Tables → Tables) → Option Tables → Type 0
+FitAfter schema change told = IfSome told (λ tables. FitsSchema schema (change tables))
+
 -- a raised counter of a model whose rows have numbers
-pub counter_fits : (told : Option Tables) (schema : Schema) (table : TableId) (row : Row) (number : ℤ) → IfSome told (FitsSchema schema) → own_number (table_at schema table.0) row ≡ Some number → LeadsToFit schema (after schema (Counter table number)) told
+pub counter_fits : (told : Option Tables) (schema : Schema) (table : TableId) (row : Row) (number : ℤ) → IfSome told (FitsSchema schema) → own_number (table_at schema table.0) row ≡ Some number → FitAfter schema (after schema (Counter table number)) told
 counter_fits None schema table row number fits own = tt
 counter_fits (Some tables) schema table row number fits own = record {
   models = fits.models;
@@ -131,22 +133,21 @@ counter_fits (Some tables) schema table row number fits own = record {
     counters t false same = fits.counters t
 
 pub counter_leads : (told : Option Tables) (asked schema : Schema) (table : TableId) (model : Table) (row : Row) (number same : ℤ) → asked ≡ schema → IfSome told (FitsSchema asked) → model ≡ table_at schema table.0 → own_number model row ≡ Some number → same ≡ number
-    → LeadsToFit asked (after asked (Counter table same)) told
+    → FitAfter asked (after asked (Counter table same)) told
 counter_leads told asked schema table model row number same is fits model_is own same_is =
     counter_fits told asked table row same fits (subst (λ (m : Table). own_number m row ≡ Some same) (model_is ∙ ap (λ (s : Schema). table_at s table.0) (sym is)) (own ∙ ap Some (sym same_is)))
 
 -- a row with a greater number
-pub high_number : (versions middle after_it : Versions) (asked schema : Schema) (table : TableId) (model : Table) (row : Row) (number same : ℤ) → asked ≡ schema → model ≡ table_at schema table.0 → own_number model row ≡ Some number → same ≡ number → middle ≡ versions
-    → after_it ≡ changed (after asked (Counter table same)) middle → ChangesTo (raised_for schema table.0 row) versions after_it
-high_number versions middle after_it asked schema table model row number same is model_is own same_is middle_is made =
+pub high_number : (before middle after_it : Viewed) (schema : Schema) (table : TableId) (model : Table) (row : Row) (number same : ℤ) → middle.schema ≡ schema → model ≡ table_at schema table.0 → own_number model row ≡ Some number → same ≡ number → Same before middle
+    → after_it ≡ changed (after middle.schema (Counter table same)) middle → ChangesTo (raised_for schema table.0 row) before after_it
+high_number before middle after_it schema table model row number same is model_is own same_is same_tables made =
     let own_here : own_number (table_at schema table.0) row ≡ Some number = subst (λ (m : Table). own_number m row ≡ Some number) model_is own in
-    let raised_so : (tables : Tables) → after asked (Counter table same) tables ≡ raised_for schema table.0 row tables =
+    let raised_so : (tables : Tables) → after middle.schema (Counter table same) tables ≡ raised_for schema table.0 row tables =
     λ tables. ap (λ n. with_last table.0 n tables) (int_max_turned same (tables.last table.0) ∙ ap (int_max (tables.last table.0)) same_is ∙ sym (raised_with (table_at schema table.0) row (tables.last table.0) (Some number) own_here)) in
-    let made_so : after_it ≡ changed (after asked (Counter table same)) versions = made ∙ ap (changed (after asked (Counter table same))) middle_is in
-    record {
-      now = ap (λ (all : Versions). all.now) made_so ∙ mapped_same (after asked (Counter table same)) (raised_for schema table.0 row) versions.now raised_so;
-      back = subst (CanGoBack versions) (sym made_so) (back_over (after asked (Counter table same)) versions versions (back_to_itself versions));
-    }
+    from_same (raised_for schema table.0 row) before middle after_it same_tables (record {
+      now = ap (λ (all : Viewed). all.now) made ∙ mapped_same (after middle.schema (Counter table same)) (raised_for schema table.0 row) middle.now raised_so;
+      back = subst (CanGoBack middle) (sym made) (back_over (after middle.schema (Counter table same)) middle middle (back_to_itself middle));
+    })
 
 -- ---- the row is put
 
@@ -154,19 +155,19 @@ put_is : (schema : Schema) (table : ℕ) (row : Row) (tables : Tables) → broke
 put_is schema table row tables unheld = ap (put_unless schema table row (tables.rows table) tables) unheld
 
 put_fits : (told : Option Tables) (schema : Schema) (table : TableId) (row : Row) → IfSome told (FitsSchema schema) → is_row_of schema table.0 row ≡ true → IsUnheld schema table.0 row told
-    → LeadsToFit schema (after schema (Put table row)) (option_map (raised_for schema table.0 row) told)
+    → FitAfter schema (after schema (Put table row)) (option_map (raised_for schema table.0 row) told)
 put_fits None schema table row fits right unheld = tt
 put_fits (Some tables) schema table row fits right unheld =
     let parts = and_parts (is_model schema table.0) (fit_columns schema.choices (table_at schema table.0).columns row.values) right in
     new_rows_fit schema table.0 row tables (placed schema table.0 row tables) fits parts.0 parts.1 (put_is schema table.0 row tables unheld)
 
 pub put_leads : (told middle : Option Tables) (first asked schema : Schema) (table : TableId) (row : Row) → first ≡ schema → asked ≡ schema → IfSome told (FitsSchema first) → is_row_of schema table.0 row ≡ true → IsUnheld schema table.0 row told
-    → middle ≡ option_map (raised_for schema table.0 row) told → LeadsToFit asked (after asked (Put table row)) middle
+    → middle ≡ option_map (raised_for schema table.0 row) told → FitAfter asked (after asked (Put table row)) middle
 put_leads told middle first asked schema table row first_is asked_is fits right unheld middle_is =
-    subst (λ (s : Schema). LeadsToFit s (after s (Put table row)) middle) (sym asked_is)
-    (subst (LeadsToFit schema (after schema (Put table row))) (sym middle_is) (put_fits told schema table row (subst (λ (s : Schema). IfSome told (FitsSchema s)) first_is fits) right unheld))
+    subst (λ (s : Schema). FitAfter s (after s (Put table row)) middle) (sym asked_is)
+    (subst (FitAfter schema (after schema (Put table row))) (sym middle_is) (put_fits told schema table row (subst (λ (s : Schema). IfSome told (FitsSchema s)) first_is fits) right unheld))
 
-pub put_reaches : (versions middle after_it : Versions) (asked schema : Schema) (table : TableId) (row : Row) → asked ≡ schema → ChangesTo (raised_for schema table.0 row) versions middle → after_it ≡ changed (after asked (Put table row)) middle
-    → ChangesTo (placed schema table.0 row) versions after_it
-put_reaches versions middle after_it asked schema table row asked_is reached made =
-    reaches_over (raised_for schema table.0 row) (after schema (Put table row)) (placed schema table.0 row) versions middle after_it (λ tables. refl) reached (subst (λ (s : Schema). after_it ≡ changed (after s (Put table row)) middle) asked_is made)
+pub put_reaches : (before middle after_it : Viewed) (asked schema : Schema) (table : TableId) (row : Row) → asked ≡ schema → ChangesTo (raised_for schema table.0 row) before middle → Same (changed (after asked (Put table row)) middle) after_it
+    → ChangesTo (placed schema table.0 row) before after_it
+put_reaches before middle after_it asked schema table row asked_is reached made =
+    reaches_over (raised_for schema table.0 row) (after schema (Put table row)) (placed schema table.0 row) before middle after_it (λ tables. refl) reached (subst (λ (s : Schema). Same (changed (after s (Put table row)) middle) after_it) asked_is made)

@@ -1,3 +1,4 @@
+pub mod Bounds
 pub mod Leaves
 pub mod Performs
 pub mod Puts

@@ -1,21 +1,27 @@
 -- The row of a key, and a row that is put.
+use Rattle.std.specs.Prelude as Prelude
 use Rattle.std.specs.Prelude.{◌≡◌, ℕ, ℤ, List, find, Option, Some, None, Result, Ok, Err, IfSome}
+use Rattle.std.specs.List.{list_any}
 use Rattle.qe_base.specs.declared.answer.Rule.{Rule}
 use Rattle.qe_base.specs.declared.value.Row.{Row}
 use Rattle.qe_base.specs.declared.value.Value.{Value}
 use Rattle.qe_base.specs.declared.value.Value.TheVariants.{Null, Text, Bool, Int, Moment, Blob, Member}
 use Rattle.qe_base.specs.Schemas.{Schema}
-use Rattle.qe_schema.specs.Columns.{Values, are_same, at_columns, value_at}
+use Rattle.qe_schema.specs.Columns.{Values, are_same, at_columns, holds, value_at}
 use Rattle.qe_schema.specs.Put.{broken_key, put_among, raised}
 use Rattle.qe_schema.specs.Tables.{Tables, table_at, with_rows, with_last}
-use Rattle.qe_view.specs.Versions.{Versions}
-use Rattle.qe_ops.specs.Leaves.{CanGoBack}
+use Rattle.qe_view.specs.Versions.{Viewed}
+use Rattle.qe_ops.specs.Leaves.{CanGoBack, Same}
 use Rattle.qe_ops.specs.declared.refusal.Refusal.{Refusal}
 use Rattle.qe_ops.specs.declared.refusal.Refusal.TheVariants as refusal
 
 -- the first row that has these values in the columns
 abbrev pub row_having : List ℕ → Values → List Row → Option Row
 row_having columns values rows = find (λ row. are_same (at_columns columns row) values) rows
+
+-- one of the rows has what this row has in the columns, none of it null
+abbrev pub is_among : List ℕ → Row → List Row → Prelude.Bool
+is_among columns row rows = list_any (holds columns (at_columns columns row)) rows
 
 -- the number that a value is
 abbrev pub whole_number : Value → Option ℤ
@@ -51,7 +57,7 @@ LeadsTo write (Some tables) after = (new : Tables) × (write tables ≡ Ok new) 
 
 -- The tables were written, by changes that can be taken back; or a rule was broken, and nothing was changed, as
 -- after any other refusal.
-abbrev pub PutsInto : {T : Type 0} → (Tables → Result Tables Rule) → Versions → Versions → Result T Refusal → Type 0
+abbrev pub PutsInto : {T : Type 0} → (Tables → Result Tables Rule) → Viewed → Viewed → Result T Refusal → Type 0
 PutsInto write before after (Ok done) = LeadsTo write before.now after.now × CanGoBack before after
-PutsInto write before after (Err (refusal.Rule broken)) = IfSome before.now (λ tables. write tables ≡ Err broken) × (after ≡ before)
-PutsInto write before after (Err (refusal.Fault fault)) = after ≡ before
+PutsInto write before after (Err (refusal.Rule broken)) = IfSome before.now (λ tables. write tables ≡ Err broken) × Same before after
+PutsInto write before after (Err (refusal.Fault fault)) = Same before after

@@ -1,17 +1,16 @@
 //! Keys, and the rows that hold their values.
-ghost use Rattle.std.specs.Prelude.{◌≡◌, ◌∷◌, [], ℕ, true, is_some, slice_get, IfOk, IfSome};
-ghost use Rattle.std.specs.List.{list_any};
+ghost use Rattle.std.specs.Prelude.{◌≡◌, ◌∷◌, [], ℕ, true, length, slice_get, IfOk, IfSome};
 ghost use Rattle.qe_text.specs.Lists.{In};
 ghost use Rattle.qe_base.specs.declared.schema.Key.{Key};
 ghost use Rattle.qe_view.specs.Right.{can_load, is_row_of};
 ghost use Rattle.qe_schema.specs.Keys.{KeyStands};
-ghost use Rattle.qe_schema.specs.Columns.{at_columns, holds};
 ghost use Rattle.qe_schema.specs.Fits.{fit_columns};
 ghost use Rattle.qe_schema.specs.Put.{broken_key as first_broken_key};
 ghost use Rattle.qe_schema.specs.Tables.{table_at, is_model};
 ghost use Rattle.qe_reading.specs.Page.{columns_of};
-ghost use Rattle.qe_ops.specs.Leaves.{Leaves, counts, fault_in};
-ghost use Rattle.qe_ops.specs.Puts.{row_having};
+ghost use Rattle.qe_ops.specs.Bounds.{loads_alone};
+ghost use Rattle.qe_ops.specs.Leaves.{Leaves, Same, fault_in};
+ghost use Rattle.qe_ops.specs.Puts.{is_among, row_having};
 
 use crate::model::table_of;
 use qe_base::{Key, Row, Rows, Table, TableId};
@@ -50,14 +49,13 @@ pub fn load<V: View>(
     view: &mut V,
 ) -> Result<Option<Row>, ConnFault>
     requires stands { V.stands view.old }
-    requires model { is_model (V.schema view.old) table.0 ≡ true }
-    requires can { can_load (V.schema view.old) table.0 columns.now (key ∷ []) ≡ true }
-    ensures row { IfOk result (λ found. IfSome (V.versions view.old).now (λ tables. found ≡ row_having columns.now key.values (tables.rows table.0))) }
-    ensures fits { IfOk result (λ found. IfSome found (λ row. fit_columns (V.schema view.old).choices (table_at (V.schema view.old) table.0).columns row.values ≡ true)) }
-    ensures versions { V.versions view.new ≡ V.versions view.old }
-    ensures schema { V.schema view.new ≡ V.schema view.old }
+    requires model { is_model (V.seen view.old).schema table.0 ≡ true }
+    requires can { can_load (V.seen view.old).schema table.0 columns.now (key ∷ []) ≡ true }
+    ensures row { IfOk result (λ found. IfSome (V.seen view.old).now (λ tables. found ≡ row_having columns.now key.values (tables.rows table.0))) }
+    ensures fits { IfOk result (λ found. IfSome found (λ row. fit_columns (V.seen view.old).schema.choices (table_at (V.seen view.old).schema table.0).columns row.values ≡ true)) }
+    ensures same { Same (V.seen view.old) (V.seen view.new) }
     ensures stands { V.stands view.new }
-    ensures leaves { Leaves (V.schema view.old) (is_some (V.versions view.old).now) (counts (V.fault_count view.old) (V.misfit_count view.old) (V.may_fail view.old) (V.calls view.old)) (counts (V.fault_count view.new) (V.misfit_count view.new) (V.may_fail view.new) (V.calls view.new)) (fault_in result) }
+    ensures leaves { Leaves (loads_alone 1) (V.seen view.old) (V.seen view.new) (fault_in result) }
 {
     let found = view.load(table, columns, &[key])?;
     Ok(first(found))
@@ -73,13 +71,12 @@ fn is_held<V: View>(
     view: &mut V,
 ) -> Result<bool, ConnFault>
     requires stands { V.stands view.old }
-    requires right { is_row_of (V.schema view.old) table.0 row.now ≡ true }
-    requires key { KeyStands (table_at (V.schema view.old) table.0) key.now }
-    ensures held { IfOk result (λ held. IfSome (V.versions view.old).now (λ tables. held ≡ list_any (holds key.now.columns (at_columns key.now.columns row.now)) (tables.rows table.0))) }
-    ensures versions { V.versions view.new ≡ V.versions view.old }
-    ensures schema { V.schema view.new ≡ V.schema view.old }
+    requires right { is_row_of (V.seen view.old).schema table.0 row.now ≡ true }
+    requires key { KeyStands (table_at (V.seen view.old).schema table.0) key.now }
+    ensures held { IfOk result (λ held. IfSome (V.seen view.old).now (λ tables. held ≡ is_among key.now.columns row.now (tables.rows table.0))) }
+    ensures same { Same (V.seen view.old) (V.seen view.new) }
     ensures stands { V.stands view.new }
-    ensures leaves { Leaves (V.schema view.old) (is_some (V.versions view.old).now) (counts (V.fault_count view.old) (V.misfit_count view.old) (V.may_fail view.old) (V.calls view.old)) (counts (V.fault_count view.new) (V.misfit_count view.new) (V.may_fail view.new) (V.calls view.new)) (fault_in result) }
+    ensures leaves { Leaves (loads_alone 1) (V.seen view.old) (V.seen view.new) (fault_in result) }
 {
     let columns = key.columns.as_slice();
     let values = id_row(alloc, columns, row)?;
@@ -109,13 +106,12 @@ fn first_held<V: View>(
     view: &mut V,
 ) -> Result<Option<u16>, ConnFault>
     requires stands { V.stands view.old }
-    requires right { is_row_of (V.schema view.old) table.0 row.now ≡ true }
-    requires keys { (key : Key) → In key keys.now → KeyStands (table_at (V.schema view.old) table.0) key }
-    ensures key { IfOk result (λ key. IfSome (V.versions view.old).now (λ tables. key ≡ first_broken_key keys.now 0 row.now (tables.rows table.0))) }
-    ensures versions { V.versions view.new ≡ V.versions view.old }
-    ensures schema { V.schema view.new ≡ V.schema view.old }
+    requires right { is_row_of (V.seen view.old).schema table.0 row.now ≡ true }
+    requires keys { (key : Key) → In key keys.now → KeyStands (table_at (V.seen view.old).schema table.0) key }
+    ensures key { IfOk result (λ key. IfSome (V.seen view.old).now (λ tables. key ≡ first_broken_key keys.now 0 row.now (tables.rows table.0))) }
+    ensures same { Same (V.seen view.old) (V.seen view.new) }
     ensures stands { V.stands view.new }
-    ensures leaves { Leaves (V.schema view.old) (is_some (V.versions view.old).now) (counts (V.fault_count view.old) (V.misfit_count view.old) (V.may_fail view.old) (V.calls view.old)) (counts (V.fault_count view.new) (V.misfit_count view.new) (V.may_fail view.new) (V.calls view.new)) (fault_in result) }
+    ensures leaves { Leaves (loads_alone (length keys.now)) (V.seen view.old) (V.seen view.new) (fault_in result) }
 {
     for (number, key) in keys.iter().enumerate() {
         if is_held(alloc, table, key, row, view)? {
@@ -134,13 +130,12 @@ pub fn broken_key<V: View>(
     view: &mut V,
 ) -> Result<Option<u16>, ConnFault>
     requires stands { V.stands view.old }
-    requires schema { V.schema view.old ≡ schema.now }
+    requires schema { (V.seen view.old).schema ≡ schema.now }
     requires right { is_row_of schema.now table.0 row.now ≡ true }
-    ensures key { IfOk result (λ key. IfSome (V.versions view.old).now (λ tables. key ≡ first_broken_key (table_at schema.now table.0).keys 0 row.now (tables.rows table.0))) }
-    ensures versions { V.versions view.new ≡ V.versions view.old }
-    ensures schema { V.schema view.new ≡ V.schema view.old }
+    ensures key { IfOk result (λ key. IfSome (V.seen view.old).now (λ tables. key ≡ first_broken_key (table_at schema.now table.0).keys 0 row.now (tables.rows table.0))) }
+    ensures same { Same (V.seen view.old) (V.seen view.new) }
     ensures stands { V.stands view.new }
-    ensures leaves { Leaves (V.schema view.old) (is_some (V.versions view.old).now) (counts (V.fault_count view.old) (V.misfit_count view.old) (V.may_fail view.old) (V.calls view.old)) (counts (V.fault_count view.new) (V.misfit_count view.new) (V.may_fail view.new) (V.calls view.new)) (fault_in result) }
+    ensures leaves { Leaves (loads_alone (length (table_at schema.now table.0).keys)) (V.seen view.old) (V.seen view.new) (fault_in result) }
 {
     let model = table_of(schema, table);
     first_held(alloc, table, model.keys.as_slice(), row, view)

@@ -1,10 +1,11 @@
 //! Putting a row into its table.
-ghost use Rattle.std.specs.Prelude.{◌≡◌, true, is_some, slice_get};
+ghost use Rattle.std.specs.Prelude.{◌≡◌, true, slice_get};
 ghost use Rattle.qe_view.specs.Right.{is_row_of};
 ghost use Rattle.qe_schema.specs.Fits.{counting, is_counting_column, is_whole_number};
 ghost use Rattle.qe_schema.specs.Put.{put_of};
 ghost use Rattle.qe_schema.specs.Tables.{id_columns};
-ghost use Rattle.qe_ops.specs.Leaves.{Leaves, ChangesOrLeaves, counts, fault_in};
+ghost use Rattle.qe_ops.specs.Bounds.{one_last, calls_of_put};
+ghost use Rattle.qe_ops.specs.Leaves.{Leaves, ChangesOrLeaves, fault_in};
 ghost use Rattle.qe_ops.specs.Puts.{IsUnheld, PutsInto, number_at, placed, raised_for, whole_number};
 ghost use Rattle.qe_ops.specs.Refusals.{fault_of};
 
@@ -97,12 +98,11 @@ fn raise_counter<V: View>(
     view: &mut V,
 ) -> Result<(), ConnFault>
     requires stands { V.stands view.old }
-    requires schema { V.schema view.old ≡ schema.now }
+    requires schema { (V.seen view.old).schema ≡ schema.now }
     requires right { is_row_of schema.now table.0 row.now ≡ true }
-    ensures writes { ChangesOrLeaves (raised_for schema.now table.0 row.now) (V.versions view.old) (V.versions view.new) result }
-    ensures schema { V.schema view.new ≡ V.schema view.old }
+    ensures writes { ChangesOrLeaves (raised_for schema.now table.0 row.now) (V.seen view.old) (V.seen view.new) result }
     ensures stands { V.stands view.new }
-    ensures leaves { Leaves (V.schema view.old) (is_some (V.versions view.old).now) (counts (V.fault_count view.old) (V.misfit_count view.old) (V.may_fail view.old) (V.calls view.old)) (counts (V.fault_count view.new) (V.misfit_count view.new) (V.may_fail view.new) (V.calls view.new)) (fault_in result) }
+    ensures leaves { Leaves one_last (V.seen view.old) (V.seen view.new) (fault_in result) }
 {
     let model = table_of(schema, table);
     match row_number(model, row) {
@@ -126,13 +126,12 @@ fn put_unheld<V: View>(
     view: &mut V,
 ) -> Result<(), ConnFault>
     requires stands { V.stands view.old }
-    requires schema { V.schema view.old ≡ schema.now }
+    requires schema { (V.seen view.old).schema ≡ schema.now }
     requires right { is_row_of schema.now table.0 row ≡ true }
-    requires unheld { IsUnheld schema.now table.0 row (V.versions view.old).now }
-    ensures writes { ChangesOrLeaves (placed schema.now table.0 row) (V.versions view.old) (V.versions view.new) result }
-    ensures schema { V.schema view.new ≡ V.schema view.old }
+    requires unheld { IsUnheld schema.now table.0 row (V.seen view.old).now }
+    ensures writes { ChangesOrLeaves (placed schema.now table.0 row) (V.seen view.old) (V.seen view.new) result }
     ensures stands { V.stands view.new }
-    ensures leaves { Leaves (V.schema view.old) (is_some (V.versions view.old).now) (counts (V.fault_count view.old) (V.misfit_count view.old) (V.may_fail view.old) (V.calls view.old)) (counts (V.fault_count view.new) (V.misfit_count view.new) (V.may_fail view.new) (V.calls view.new)) (fault_in result) }
+    ensures leaves { Leaves one_last (V.seen view.old) (V.seen view.new) (fault_in result) }
 {
     let before = view.mark();
     raise_counter(schema, table, &row, view)?;
@@ -155,12 +154,11 @@ pub fn put_row<V: View>(
     view: &mut V,
 ) -> Result<(), Refusal>
     requires stands { V.stands view.old }
-    requires schema { V.schema view.old ≡ schema.now }
+    requires schema { (V.seen view.old).schema ≡ schema.now }
     requires right { is_row_of schema.now table.0 row ≡ true }
-    ensures puts { PutsInto (put_of schema.now table.0 row) (V.versions view.old) (V.versions view.new) result }
-    ensures schema { V.schema view.new ≡ V.schema view.old }
+    ensures puts { PutsInto (put_of schema.now table.0 row) (V.seen view.old) (V.seen view.new) result }
     ensures stands { V.stands view.new }
-    ensures leaves { Leaves (V.schema view.old) (is_some (V.versions view.old).now) (counts (V.fault_count view.old) (V.misfit_count view.old) (V.may_fail view.old) (V.calls view.old)) (counts (V.fault_count view.new) (V.misfit_count view.new) (V.may_fail view.new) (V.calls view.new)) (fault_of result) }
+    ensures leaves { Leaves (calls_of_put schema.now table.0) (V.seen view.old) (V.seen view.new) (fault_of result) }
 {
     match broken_key(alloc, schema, table, &row, view)? {
         Some(key) => Err(Refusal::Rule(Rule::Unique { table, key })),

@@ -1,11 +1,12 @@
 //! Running an operation.
-ghost use Rattle.std.specs.Prelude.{◌≡◌, ℕ, true, is_some};
+ghost use Rattle.std.specs.Prelude.{◌≡◌, ℕ, true};
 ghost use Rattle.qe_base.specs.declared.answer.Outside.{Outside};
 ghost use Rattle.qe_base.specs.declared.write.Op.TheVariants as op;
 ghost use Rattle.qe_reading.specs.CarriedOut.{is_carried_out};
 ghost use Rattle.qe_writing.specs.Plain.{plain};
 ghost use Rattle.qe_writing.specs.WriteFits.{op_fits};
-ghost use Rattle.qe_ops.specs.Leaves.{Leaves, counts};
+ghost use Rattle.qe_ops.specs.Bounds.{loads_alone, calls_of_put, calls_of, reads_alone};
+ghost use Rattle.qe_ops.specs.Leaves.{Leaves, Same};
 ghost use Rattle.qe_ops.specs.Performs.{Carries, Performs};
 ghost use Rattle.qe_ops.specs.Refusals.{TellsCounts, fault_of, fault_told};
 
@@ -31,13 +32,13 @@ fn find<V: View>(
     view: &mut V,
 ) -> Result<Answer, Refusal>
     requires stands { V.stands view.old }
-    requires schema { V.schema view.old ≡ schema.now }
+    requires schema { (V.seen view.old).schema ≡ schema.now }
     requires fits { op_fits schema.now (op.FindUnique table at.now strict pick.now) ≡ true }
     requires carried { is_carried_out schema.now (op.FindUnique table at.now strict pick.now) ≡ true }
-    ensures carries { (outside : Outside) → Carries (plain schema.now (op.FindUnique table at.now strict pick.now) outside) (V.versions view.old) (V.versions view.new) result }
-    ensures schema { V.schema view.new ≡ V.schema view.old }
+    ensures carries { (outside : Outside) → Carries (plain schema.now (op.FindUnique table at.now strict pick.now) outside) (V.seen view.old) (V.seen view.new) result }
     ensures stands { V.stands view.new }
-    ensures leaves { Leaves (V.schema view.old) (is_some (V.versions view.old).now) (counts (V.fault_count view.old) (V.misfit_count view.old) (V.may_fail view.old) (V.calls view.old)) (counts (V.fault_count view.new) (V.misfit_count view.new) (V.may_fail view.new) (V.calls view.new)) (fault_of result) }
+    ensures same { Same (V.seen view.old) (V.seen view.new) }
+    ensures leaves { Leaves (loads_alone 1) (V.seen view.old) (V.seen view.new) (fault_of result) }
 {
     let model = table_of(schema, table);
     let columns = key_columns(model, at.key);
@@ -59,13 +60,12 @@ fn create<V: View>(
     view: &mut V,
 ) -> Result<Answer, Refusal>
     requires stands { V.stands view.old }
-    requires schema { V.schema view.old ≡ schema.now }
+    requires schema { (V.seen view.old).schema ≡ schema.now }
     requires fits { op_fits schema.now (op.Create table tree.now pick.now) ≡ true }
     requires carried { is_carried_out schema.now (op.Create table tree.now pick.now) ≡ true }
-    ensures carries { (outside : Outside) → Carries (plain schema.now (op.Create table tree.now pick.now) outside) (V.versions view.old) (V.versions view.new) result }
-    ensures schema { V.schema view.new ≡ V.schema view.old }
+    ensures carries { (outside : Outside) → Carries (plain schema.now (op.Create table tree.now pick.now) outside) (V.seen view.old) (V.seen view.new) result }
     ensures stands { V.stands view.new }
-    ensures leaves { Leaves (V.schema view.old) (is_some (V.versions view.old).now) (counts (V.fault_count view.old) (V.misfit_count view.old) (V.may_fail view.old) (V.calls view.old)) (counts (V.fault_count view.new) (V.misfit_count view.new) (V.may_fail view.new) (V.calls view.new)) (fault_of result) }
+    ensures leaves { Leaves (calls_of_put schema.now table.0) (V.seen view.old) (V.seen view.new) (fault_of result) }
 {
     let model = table_of(schema, table);
     let row = fill(alloc, model.columns.as_slice(), tree.values.as_slice())?;
@@ -82,13 +82,13 @@ fn carry_out<V: View>(
     view: &mut V,
 ) -> Result<Answer, Refusal>
     requires stands { V.stands view.old }
-    requires schema { V.schema view.old ≡ schema.now }
+    requires schema { (V.seen view.old).schema ≡ schema.now }
     requires fits { op_fits schema.now op.now ≡ true }
     requires carried { is_carried_out schema.now op.now ≡ true }
-    ensures carries { (outside : Outside) → Carries (plain schema.now op.now outside) (V.versions view.old) (V.versions view.new) result }
-    ensures schema { V.schema view.new ≡ V.schema view.old }
+    ensures carries { (outside : Outside) → Carries (plain schema.now op.now outside) (V.seen view.old) (V.seen view.new) result }
     ensures stands { V.stands view.new }
-    ensures leaves { Leaves (V.schema view.old) (is_some (V.versions view.old).now) (counts (V.fault_count view.old) (V.misfit_count view.old) (V.may_fail view.old) (V.calls view.old)) (counts (V.fault_count view.new) (V.misfit_count view.new) (V.may_fail view.new) (V.calls view.new)) (fault_of result) }
+    ensures leaves { Leaves (calls_of schema.now op.now) (V.seen view.old) (V.seen view.new) (fault_of result) }
+    ensures reads { reads_alone op.now ≡ true → (V.seen view.new).past ≡ (V.seen view.old).past }
 {
     match op {
         Op::FindUnique {
@@ -111,14 +111,14 @@ pub fn run_op<V: View>(
     view: &mut V,
 ) -> Result<Answer, OpFault>
     requires stands { V.stands view.old }
-    requires schema { V.schema view.old ≡ schema.now }
+    requires schema { (V.seen view.old).schema ≡ schema.now }
     requires fits { op_fits schema.now op.now ≡ true }
     requires carried { is_carried_out schema.now op.now ≡ true }
-    ensures performs { (outside : Outside) → Performs (plain schema.now op.now outside) (V.versions view.old) (V.versions view.new) result }
-    ensures schema { V.schema view.new ≡ V.schema view.old }
+    ensures performs { (outside : Outside) → Performs (plain schema.now op.now outside) (V.seen view.old) (V.seen view.new) result }
     ensures stands { V.stands view.new }
-    ensures leaves { Leaves (V.schema view.old) (is_some (V.versions view.old).now) (counts (V.fault_count view.old) (V.misfit_count view.old) (V.may_fail view.old) (V.calls view.old)) (counts (V.fault_count view.new) (V.misfit_count view.new) (V.may_fail view.new) (V.calls view.new)) (fault_told result) }
-    ensures counts { TellsCounts (V.fault_count view.old) (V.fault_count view.new) result }
+    ensures leaves { Leaves (calls_of schema.now op.now) (V.seen view.old) (V.seen view.new) (fault_told result) }
+    ensures counts { TellsCounts (V.seen view.old).below.faults.count (V.seen view.new).below.faults.count result }
+    ensures reads { reads_alone op.now ≡ true → (V.seen view.new).past ≡ (V.seen view.old).past }
 {
     let before = view.faults();
     match carry_out(alloc, schema, op, view) {

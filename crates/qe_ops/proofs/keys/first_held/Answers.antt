@@ -9,5 +9,5 @@ pub is_held-requires-clause-key : goal.is_held-requires-clause-key
 is_held-requires-clause-key g c =
     let key = c.index-keys-number.result in
     let keys = c.args.keys.now in
-    subst (λ schema. KeyStands (table_at schema c.args.table.0) key) (sym c.loop-number.invariant.schema)
+    subst (λ schema. KeyStands (table_at schema c.args.table.0) key) (sym c.loop-number.invariant.leaves.schema)
     (c.requires.keys key (in_place keys c.loop-number.number key (slice_get-get_or keys c.loop-number.number key c.loop-number-test.true ∙ ap Some (sym c.index-keys-number.is))))

@@ -6,9 +6,10 @@ use Rattle.qe_ops.proofs.keys.load.Goals as goal
 
 pub returns-clause-row : goal.returns-clause-row
 returns-clause-row g c =
-    row_loaded (g.V.View.versions c.args.view.now).now (g.V.View.schema c.args.view.now) c.args.table.0 c.args.columns.now c.args.key c.in_ok-found.found.rows c.first.result c.requires.model (g.V.View.fits c.args.view.now c.requires.stands) c.in_ok-found.ensures.rows c.first.ensures
+    let seen = g.V.View.seen c.args.view.now in
+    row_loaded seen.now seen.schema c.args.table.0 c.args.columns.now c.args.key c.in_ok-found.found.rows c.first.result c.requires.model (g.V.View.fits c.args.view.now c.requires.stands) c.in_ok-found.ensures.rows c.first.ensures
 
 pub returns-clause-fits : goal.returns-clause-fits
 returns-clause-fits g c =
-    let schema = g.V.View.schema c.args.view.now in
+    let schema = (g.V.View.seen c.args.view.now).schema in
     first_passes (λ (row : Row). fit_columns schema.choices (table_at schema c.args.table.0).columns row.values) c.in_ok-found.found.rows c.first.result c.in_ok-found.ensures.rows_fit c.first.ensures

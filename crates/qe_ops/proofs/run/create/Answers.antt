@@ -12,15 +12,15 @@ put_row-requires-clause-right g c =
 
 pub returns-in_err-put_row-clause-carries : goal.returns-in_err-put_row-clause-carries
 returns-in_err-put_row-clause-carries g c = λ outside.
-    let before = g.V.View.versions c.args.view.now in
-    let after = g.V.View.versions c.put_row.new.view in
+    let before = g.V.View.seen c.args.view.now in
+    let after = g.V.View.seen c.put_row.new.view in
     let new = is_new c.args.schema.now c.args.table c.args.tree.now c.args.pick.now c.table_of-model.result.now c.as_slice.result.now c.as_slice-2.result.now c.in_ok-row.row c.in_ok-answer.answer c.table_of-model.ensures.table c.as_slice.ensures c.as_slice-2.ensures c.in_ok-row.ensures c.in_ok-answer.ensures in
     handed_on (Carries (plain c.args.schema.now (op.Create c.args.table c.args.tree.now c.args.pick.now) outside) before after) c.from_residual-in_err-put_row.result c.in_err-put_row.field-0.0 c.from_residual-in_err-put_row.ensures.1
     (refused_carries before after c.args.schema.now c.args.table c.args.tree.now c.args.pick.now outside c.in_ok-row.row c.in_ok-answer.answer c.in_err-put_row.field-0.0 c.requires.carried new c.in_err-put_row.ensures.puts)
 
 pub returns-clause-carries : goal.returns-clause-carries
 returns-clause-carries g c = λ outside.
-    let before = g.V.View.versions c.args.view.now in
-    let after = g.V.View.versions c.put_row.new.view in
+    let before = g.V.View.seen c.args.view.now in
+    let after = g.V.View.seen c.put_row.new.view in
     let new = is_new c.args.schema.now c.args.table c.args.tree.now c.args.pick.now c.table_of-model.result.now c.as_slice.result.now c.as_slice-2.result.now c.in_ok-row.row c.in_ok-answer.answer c.table_of-model.ensures.table c.as_slice.ensures c.as_slice-2.ensures c.in_ok-row.ensures c.in_ok-answer.ensures in
     created_carries before after c.args.schema.now c.args.table c.args.tree.now c.args.pick.now outside c.in_ok-row.row c.in_ok-answer.answer c.requires.carried new c.in_ok-put_row.ensures.puts

@@ -20,21 +20,21 @@ load-requires-clause-can g c =
 
 pub returns-in_ok-shape-in-Some-clause-carries : goal.returns-in_ok-shape-in-Some-clause-carries
 returns-in_ok-shape-in-Some-clause-carries g c = λ outside.
-    let asked = row_asked (g.V.View.versions c.args.view.now).now c.args.schema.now c.args.table c.args.at.now c.args.strict c.args.pick.now c.table_of-model.result.now c.key_columns-columns.result.now c.in_ok-key.key.values c.in_ok-row.field-0 c.requires.fits c.table_of-model.ensures.table
+    let asked = row_asked (g.V.View.seen c.args.view.now).now c.args.schema.now c.args.table c.args.at.now c.args.strict c.args.pick.now c.table_of-model.result.now c.key_columns-columns.result.now c.in_ok-key.key.values c.in_ok-row.field-0 c.requires.fits c.table_of-model.ensures.table
     c.key_columns-columns.ensures (ap (λ (row : Row). row.values) c.in_ok-key.ensures) c.in_ok-row.ensures.row in
-    found_carries (g.V.View.versions c.args.view.now) (g.V.View.versions c.load.new.view) c.args.schema.now c.args.table c.args.at.now c.args.strict c.args.pick.now outside c.in_ok-row.field-0 c.in_ok-shape-in-Some.field-0 c.requires.carried c.in_ok-row.ensures.versions asked
+    found_carries (g.V.View.seen c.args.view.now) (g.V.View.seen c.load.new.view) c.args.schema.now c.args.table c.args.at.now c.args.strict c.args.pick.now outside c.in_ok-row.field-0 c.in_ok-shape-in-Some.field-0 c.requires.carried c.in_ok-row.ensures.same asked
     (ap (answered_for (table_at c.args.schema.now c.args.table.0) c.args.table.0 c.args.strict c.args.pick.now) c.in-Some.is ∙ ap Ok (ap (λ (model : Table). columns_of_row model c.args.pick.now c.in-Some.row) (sym c.table_of-model.ensures.table) ∙ sym c.in_ok-shape-in-Some.ensures))
 
 pub returns-in-None-clause-carries : goal.returns-in-None-clause-carries
 returns-in-None-clause-carries g c = λ outside.
-    let asked = row_asked (g.V.View.versions c.args.view.now).now c.args.schema.now c.args.table c.args.at.now c.args.strict c.args.pick.now c.table_of-model.result.now c.key_columns-columns.result.now c.in_ok-key.key.values c.in_ok-row.field-0 c.requires.fits c.table_of-model.ensures.table
+    let asked = row_asked (g.V.View.seen c.args.view.now).now c.args.schema.now c.args.table c.args.at.now c.args.strict c.args.pick.now c.table_of-model.result.now c.key_columns-columns.result.now c.in_ok-key.key.values c.in_ok-row.field-0 c.requires.fits c.table_of-model.ensures.table
     c.key_columns-columns.ensures (ap (λ (row : Row). row.values) c.in_ok-key.ensures) c.in_ok-row.ensures.row in
-    absent_carries (g.V.View.versions c.args.view.now) (g.V.View.versions c.load.new.view) c.args.schema.now c.args.table c.args.at.now c.args.strict c.args.pick.now outside c.in_ok-row.field-0 (rule.Absent c.args.table) c.requires.carried c.in_ok-row.ensures.versions asked
+    absent_carries (g.V.View.seen c.args.view.now) (g.V.View.seen c.load.new.view) c.args.schema.now c.args.table c.args.at.now c.args.strict c.args.pick.now outside c.in_ok-row.field-0 (rule.Absent c.args.table) c.requires.carried c.in_ok-row.ensures.same asked
     (ap (answered_for (table_at c.args.schema.now c.args.table.0) c.args.table.0 c.args.strict c.args.pick.now) c.in-None.is ∙ ap (missing c.args.table.0) c.if-strict.true)
 
 pub returns-in-None-2-clause-carries : goal.returns-in-None-2-clause-carries
 returns-in-None-2-clause-carries g c = λ outside.
-    let asked = row_asked (g.V.View.versions c.args.view.now).now c.args.schema.now c.args.table c.args.at.now c.args.strict c.args.pick.now c.table_of-model.result.now c.key_columns-columns.result.now c.in_ok-key.key.values c.in_ok-row.field-0 c.requires.fits c.table_of-model.ensures.table
+    let asked = row_asked (g.V.View.seen c.args.view.now).now c.args.schema.now c.args.table c.args.at.now c.args.strict c.args.pick.now c.table_of-model.result.now c.key_columns-columns.result.now c.in_ok-key.key.values c.in_ok-row.field-0 c.requires.fits c.table_of-model.ensures.table
     c.key_columns-columns.ensures (ap (λ (row : Row). row.values) c.in_ok-key.ensures) c.in_ok-row.ensures.row in
-    found_carries (g.V.View.versions c.args.view.now) (g.V.View.versions c.load.new.view) c.args.schema.now c.args.table c.args.at.now c.args.strict c.args.pick.now outside c.in_ok-row.field-0 answer.Null c.requires.carried c.in_ok-row.ensures.versions asked
+    found_carries (g.V.View.seen c.args.view.now) (g.V.View.seen c.load.new.view) c.args.schema.now c.args.table c.args.at.now c.args.strict c.args.pick.now outside c.in_ok-row.field-0 answer.Null c.requires.carried c.in_ok-row.ensures.same asked
     (ap (answered_for (table_at c.args.schema.now c.args.table.0) c.args.table.0 c.args.strict c.args.pick.now) c.in-None.is ∙ ap (missing c.args.table.0) c.if-strict.false)
