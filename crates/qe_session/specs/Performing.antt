@@ -1,8 +1,10 @@
 -- What running the operations of an event over a view comes to, and what is told of that in the end.
-use Rattle.std.specs.Prelude.{◌≡◌, ◌⊎◌, ℕ, Bool, true, List, [], ◌∷◌, Option, Some, None}
+use Rattle.std.specs.Prelude.{◌≡◌, ◌⊎◌, ℕ, Bool, true, List, [], ◌∷◌, Option, Some, None, Result, Ok, Err}
 use Rattle.std.specs.List.{list_all}
 use Rattle.qe_base.specs.Causes.{HasCause}
 use Rattle.qe_base.specs.Schemas.{Schema}
+use Rattle.qe_base.specs.declared.answer.Answer.{Answer}
+use Rattle.qe_base.specs.declared.answer.OpFault.{OpFault}
 use Rattle.qe_base.specs.declared.answer.OpFault.TheVariants as fault
 use Rattle.qe_base.specs.declared.answer.Outside.{Outside}
 use Rattle.qe_base.specs.declared.event.Reply.{Reply}
@@ -34,6 +36,14 @@ fault_of (Answered reply) = None
 fault_of (Refused reply) = misfit_in reply
 fault_of (Failed index first last) = Some conn.Failed
 fault_of Memory = None
+
+-- what an operation by itself came to
+abbrev pub ran_of : Result Answer OpFault → Ran
+ran_of (Ok answer) = Answered (replies.Answer answer)
+ran_of (Err (fault.Rule broken)) = Refused (replies.Refused None (fault.Rule broken))
+ran_of (Err (fault.Connector first last)) = Failed None first last
+ran_of (Err (fault.Misfit table column)) = Refused (replies.Refused None (fault.Misfit table column))
+ran_of (Err fault.Memory) = Memory
 
 -- the outcome of the operations, whatever moment and seed they are given
 abbrev pub Outcomes : Schema → What → Option Tables → Reply → Option Tables → Type 0

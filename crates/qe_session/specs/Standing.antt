@@ -1,9 +1,9 @@
 -- What a core stands for.
-use Rattle.std.specs.Prelude.{◌≡◌, true, false, List}
+use Rattle.std.specs.Prelude.{◌≡◌, true, false, not, List}
 use Rattle.qe_base.specs.Schemas.{Schema}
 use Rattle.qe_base.specs.declared.event.Entry.{Entry}
 use Rattle.qe_history.specs.History.{Legal}
-use Rattle.qe_history.specs.State.{State}
+use Rattle.qe_history.specs.State.{State, opening}
 use Rattle.qe_overlay.specs.Fits.{Stands, viewed_by}
 use Rattle.qe_overlay.specs.Held.{KeptLayers, held_in, none_kept}
 use Rattle.qe_overlay.specs.declared.view.OverlayView.{OverlayView}
@@ -36,6 +36,10 @@ pub record StandsForState (schema : Schema) (below : Connected) (state : State) 
   pub live : state.live ≡ below.told
   pub faults : state.faults ≡ below.faults.count
   pub steady : state.steady ≡ true → below.faults.may_fail ≡ false
+
+-- the state that a connector stands for before any event
+abbrev pub first_state : Schema → Connected → State
+first_state schema below = opening schema below.told below.faults.count (not below.faults.may_fail)
 
 -- it stands for a legal history from an opening
 pub record StandsFor (schema : Schema) (below : Connected) (opening : State) (history : List Entry) : Type 0 where

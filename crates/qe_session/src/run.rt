@@ -1,11 +1,12 @@
 //! Running the operations of an event over a view, and telling what came of them.
-ghost use Rattle.std.specs.Prelude.{◌≡◌, [], true};
-ghost use Rattle.std.specs.List.{list_all};
+ghost use Rattle.std.specs.Prelude.{◌≡◌, [], true, None};
+ghost use Rattle.qe_base.specs.declared.event.Reply.{Reply};
+ghost use Rattle.qe_base.specs.declared.event.Reply.TheVariants as replies;
 ghost use Rattle.qe_base.specs.declared.event.What.TheVariants as what;
 ghost use Rattle.qe_forms.specs.Reply.{told_text};
 ghost use Rattle.qe_overlay.specs.Held.{none_kept};
 ghost use Rattle.qe_session.specs.Handling.{is_handled};
-ghost use Rattle.qe_session.specs.Performing.{IsAnswer, Runs, Tells};
+ghost use Rattle.qe_session.specs.Performing.{IsAnswer, Runs, Tells, ran_of};
 ghost use Rattle.qe_session.specs.Standing.{InOrder, seen_in};
 ghost use Rattle.qe_session.specs.declared.run.Ran.TheVariants as ran;
 
@@ -34,6 +35,30 @@ pub enum Ran {
     Memory,
 }
 
+/// What an operation by itself came to.
+fn ran_of(done: Result<Answer, OpFault>) -> Ran
+    ensures { result ≡ ran_of done }
+{
+    match done {
+        Ok(answer) => Ran::Answered(Reply::Answer(answer)),
+        Err(OpFault::Rule(rule)) => refused(OpFault::Rule(rule)),
+        Err(OpFault::Connector { before, after }) => Ran::Failed {
+            index: None,
+            before,
+            after,
+        },
+        Err(OpFault::Misfit { table, column }) => refused(OpFault::Misfit { table, column }),
+        Err(OpFault::Memory) => Ran::Memory,
+    }
+}
+
+/// The refusal of an operation by itself.
+fn refused(fault: OpFault) -> Ran
+    ensures { result ≡ ran.Refused (replies.Refused None fault) }
+{
+    Ran::Refused(Reply::Refused { index: None, fault })
+}
+
 /// Runs an operation by itself.
 #[tactic(auto, using(crate::proofs::Running::single_runs))]
 pub fn run_single<C: Connector>(
@@ -49,22 +74,8 @@ pub fn run_single<C: Connector>(
     ensures order { InOrder C.seen view.new }
     ensures schema { view.new.schema ≡ schema.now }
 {
-    match run_op(alloc, schema, op, view) {
-        Ok(answer) => Ran::Answered(Reply::Answer(answer)),
-        Err(OpFault::Rule(rule)) => refused(OpFault::Rule(rule)),
-        Err(OpFault::Connector { before, after }) => Ran::Failed {
-            index: None,
-            before,
-            after,
-        },
-        Err(OpFault::Misfit { table, column }) => refused(OpFault::Misfit { table, column }),
-        Err(OpFault::Memory) => Ran::Memory,
-    }
-}
-
-/// The refusal of an operation by itself.
-fn refused(fault: OpFault) -> Ran {
-    Ran::Refused(Reply::Refused { index: None, fault })
+    let done = run_op(alloc, schema, op, view);
+    ran_of(done)
 }
 
 /// Tells an answer once its changes are below, if there are any.
