@@ -19,7 +19,7 @@ use Rattle.qe_view.specs.Layouts.{layout_of}
 use Rattle.qe_overlay.specs.Fits.{Stands, viewed}
 use Rattle.qe_overlay.specs.Held.{Held, layers_in, held_in, none_kept}
 use Rattle.qe_overlay.specs.Layers.{seen}
-use Rattle.qe_overlay.specs.Settled.{SettlesBelow, AppliesAny, Settles}
+use Rattle.qe_overlay.specs.Settled.{SettlesBelow, AppliesAny, Settles, retold}
 use Rattle.qe_overlay.proofs.Starting.{seen_none, empty_stands}
 use Rattle.qe_overlay.proofs.Views.{no_cause, of_layout, has_layout, Standing, standing}
 
@@ -139,7 +139,7 @@ module _ (schema : Schema) (held : Held) (changes : List Change) (settles : Sett
   called connected now unit (inl (none, same, ok)) = inl (ap (λ (c : Connected). c.calls) same, ap (λ (c : Connected). c.told) same)
   called connected now unit (inr applies) = inr (ap (λ (c : Connected). c.calls) applies.others)
 
-  below_is : (connected now : Connected) (unit : Unit {0}) → AppliesAny changes connected now (Ok unit) → now ≡ record connected { told = now.told; faults = now.faults; calls = now.calls }
+  below_is : (connected now : Connected) (unit : Unit {0}) → AppliesAny changes connected now (Ok unit) → now ≡ retold connected now
   below_is connected now unit (inl (none, same, ok)) = same ∙ (λ i. record connected { told = (sym same i).told; faults = (sym same i).faults; calls = (sym same i).calls })
   below_is connected now unit (inr applies) =
       applies.others ∙ ap (λ (calls : CallCounts). record connected { told = now.told; faults = now.faults; calls = calls }) (sym (ap (λ (c : Connected). c.calls) applies.others))

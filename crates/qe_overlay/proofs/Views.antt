@@ -164,17 +164,6 @@ back_stands schema connected mark before after back stands = record {
   past = subst (AllByRecursion (FitOver schema connected.told)) (sym back.past) (all-take (FitOver schema connected.told) mark before.past stands.past);
 }
 
--- a call below that leaves the told tables, and what is attached, leaves what stands
-pub kept_stands : (schema : Schema) (held : Held) (connected now : Connected) → now.attached ≡ connected.attached → now.told ≡ connected.told → Stands schema held connected → Stands schema held now
-kept_stands schema held connected now attached_is told_is stands = record {
-  sound = stands.sound;
-  attached = ap (option_map (λ (a : Attached). a.layout)) attached_is ∙ stands.attached;
-  below = subst (λ (a : Option Attached). IfSome a (λ a. IfSome now.told (FitsSchema (shapes_of a.layout)))) (sym attached_is)
-      (subst (λ (t : Option Tables). IfSome connected.attached (λ a. IfSome t (FitsSchema (shapes_of a.layout)))) (sym told_is) stands.below);
-  now = subst (λ (t : Option Tables). FitOver schema t held.layers) (sym told_is) stands.now;
-  past = subst (λ (t : Option Tables). AllByRecursion (FitOver schema t) held.past) (sym told_is) stands.past;
-}
-
 -- ---- reading
 
 filter_true : (rows : List Row) → filter (λ row. true) rows ≡ rows

@@ -84,7 +84,9 @@ stands_fit schema held connected stands = seen_fit schema connected.told held.la
 
 -- an overlay without changes stands over what is attached with the layout of the schema
 abbrev pub EmptyStands : Type 0
-EmptyStands = (schema : Schema) (connected : Connected) → IsSound schema → HasLayout connected (layout_of schema) → FitLayout connected → Stands schema (held_in none_kept) connected
+EmptyStands =
+    (schema : Schema) (connected : Connected) → IsSound schema → HasLayout connected (layout_of schema) → FitLayout connected
+    → Stands schema (held_in none_kept) connected
 
 -- of layers that fit, those of some tables fit too
 abbrev pub NarrowedFit : Type 0

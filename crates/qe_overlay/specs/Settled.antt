@@ -75,6 +75,10 @@ SettlesBelow schema layers changes =
 abbrev pub AppliesAny : List Change → Connected → Connected → Result (Unit {0}) ConnFault → Type 0
 AppliesAny changes before after result = ((changes ≡ []) × (after ≡ before) × (result ≡ Ok tt)) ⊎ Applies changes before after result
 
+-- what is below, of which the told tables and counts alone may differ
+abbrev pub retold : Connected → Connected → Connected
+retold before after = record before { told = after.told; faults = after.faults; calls = after.calls }
+
 -- What was seen is what is told below, and can't be taken back; or after a refusal all is as it was. At most one
 -- call was made below, which applied the changes.
 pub record Settles (before after : Viewed) (result : Result (Unit {0}) ConnFault) : Type 0 where
@@ -83,4 +87,4 @@ pub record Settles (before after : Viewed) (result : Result (Unit {0}) ConnFault
   pub cause : HasCause before.below.faults after.below.faults (IsErrOf result Failed)
   pub misfit : IsMisfit result → ⊥
   pub applied : ((after.below.calls ≡ before.below.calls) × (after.below.told ≡ before.below.told)) ⊎ (after.below.calls ≡ with_apply before.below.calls)
-  pub others : after ≡ record before { now = after.now; past = after.past; below = record before.below { told = after.below.told; faults = after.below.faults; calls = after.below.calls } }
+  pub others : after ≡ record before { now = after.now; past = after.past; below = retold before.below after.below }
