@@ -103,7 +103,8 @@ fn carry_out<V: View>(
 }
 
 /// Runs an operation that fits the schema and is carried out so far over a view of its tables. It answers, and
-/// makes of the tables, what the documented rules say; after a refusal the tables are as before, and so is what can be taken back.
+/// makes of the tables, what the documented rules say; after a refusal the tables are as before, and so is what can be
+/// taken back. A find makes at most one load below; a create one for each key of its table, and one look at its counter.
 pub fn run_op<V: View>(
     alloc: Global,
     schema: &Schema,
