@@ -1,5 +1,5 @@
 -- What an operation by itself comes to.
-use Rattle.std.proofs.Common.{◌≡◌, ℕ, true, refl, ap, sym, Option, Some, None, option_map, Result, Ok, Err, IfSome}
+use Rattle.std.proofs.Common.{◌≡◌, ℕ, pos, true, refl, ap, sym, rules, Option, Some, None, option_map, is_some, Result, Ok, Err, IfSome}
 use Rattle.qe_base.specs.Schemas.{Schema}
 use Rattle.qe_base.specs.declared.answer.Answer.{Answer}
 use Rattle.qe_base.specs.declared.answer.OpFault.{OpFault}
@@ -15,12 +15,17 @@ use Rattle.qe_ops.specs.Leaves.{Leaves}
 use Rattle.qe_ops.specs.Performs.{Performs}
 use Rattle.qe_ops.specs.Refusals.{TellsCounts, fault_told}
 use Rattle.qe_overlay.specs.Fits.{viewed}
+use Rattle.qe_base.specs.declared.value.TableId.{TableId}
 use Rattle.qe_overlay.specs.Held.{Held}
+use Rattle.qe_overlay.specs.Layers.{Layers, seen}
 use Rattle.qe_schema.specs.Tables.{Tables}
 use Rattle.qe_view.specs.Attached.{Connected}
 use Rattle.qe_view.specs.Versions.{Viewed}
-use Rattle.qe_writing.specs.Plain.{Done, plain}
-use Rattle.qe_session.specs.Performing.{Runs, RunsTo, ran_of}
+use Rattle.qe_writing.specs.Plain.{plain}
+use Rattle.qe_session.specs.Performing.{Runs, ran_of}
+
+any : Outside
+any = record { moment = pos 0; seed = 0 }
 
 -- an answer, and the tables after it
 answered : (schema : Schema) (op : Op) (outside : Outside) (told now : Option Tables) (answer : Answer) → IfSome told (λ tables. (plain schema op outside tables).answer ≡ Ok answer)
@@ -34,7 +39,43 @@ broke : (schema : Schema) (op : Op) (outside : Outside) (told : Option Tables) (
 broke schema op outside None broken h = (tt, refl)
 broke schema op outside (Some tables) broken h = ap single_outcome (sym h)
 
--- a kept row that doesn't fit, of tables that aren't told
-unfit : (schema : Schema) (op : Op) (outside : Outside) (told now : Option Tables) (refused : OpFault) → (told ≡ None) → now ≡ None
-    → ComesOfOne schema outside op now (record { reply = replies.Refused None refused; live = now })
-unfit schema op outside told now refused h is = ?
+-- a kept row that doesn't fit comes of tables that aren't told
+unfit : (schema shown : Schema) (op : Op) (outside : Outside) (layers : Layers) (told : Option Tables) (table : TableId) (column : ℕ) → (is_some told ≡ true → ⊥)
+    → ComesOfOne schema outside op (option_map (seen shown layers) told) (record { reply = replies.Refused None (fault.Misfit table column); live = option_map (seen shown layers) told })
+unfit schema shown op outside layers None table column untold = (tt, refl)
+unfit schema shown op outside layers (Some tables) table column untold = absurd (untold refl)
+
+pub single_runs : (schema shown : Schema) (op : Op) (held : Held) (below : Connected) (after : Viewed) (result : Result Answer OpFault)
+    → ((outside : Outside) → Performs (plain schema op outside) (viewed shown held below) after result) → Leaves (calls_of schema op) (viewed shown held below) after (fault_told result)
+    → TellsCounts below.faults.count after.below.faults.count result → (reads_alone op ≡ true → after.past ≡ (viewed shown held below).past)
+    → Runs schema (what.Single op) (viewed shown held below) after (ran_of result)
+single_runs schema shown op held below after (Ok answer) performs leaves counts reads = record {
+  orderly = tt;
+  comes = (λ outside. answered schema op outside (viewed shown held below).now after.now answer (performs outside).answer (performs outside).ok.now, (performs any).ok.back);
+  leaves = leaves;
+  reads = reads;
+}
+single_runs schema shown op held below after (Err (fault.Rule broken)) performs leaves counts reads = record {
+  orderly = tt;
+  comes = λ outside. broke schema op outside (viewed shown held below).now broken (performs outside).answer;
+  leaves = leaves;
+  reads = reads;
+}
+single_runs schema shown op held below after (Err (fault.Connector first last)) performs leaves counts reads = record {
+  orderly = tt;
+  comes = (λ outside. tt, counts.0, counts.1);
+  leaves = leaves;
+  reads = reads;
+}
+single_runs schema shown op held below after (Err (fault.Misfit table column)) performs leaves counts reads = record {
+  orderly = tt;
+  comes = λ outside. unfit schema shown op outside held.layers below.told table column (λ told. leaves.tells told refl);
+  leaves = leaves;
+  reads = reads;
+}
+single_runs schema shown op held below after (Err fault.Memory) performs leaves counts reads = record {
+  orderly = tt;
+  comes = tt;
+  leaves = search rules;
+  reads = reads;
+}

@@ -1,7 +1,7 @@
 -- What running the operations of an event over a view comes to, and what is told of that in the end.
-use Rattle.std.specs.Prelude.{◌≡◌, ◌⊎◌, ℕ, Bool, true, List, [], ◌∷◌, Option, Some, None, Result, Ok, Err}
+use Rattle.std.specs.Prelude.{◌≡◌, ◌⊎◌, Bool, true, false, List, [], ◌∷◌, Option, Some, None, Result, Ok, Err}
 use Rattle.std.specs.List.{list_all}
-use Rattle.qe_base.specs.Causes.{HasCause}
+use Rattle.qe_base.specs.Causes.{Faults, HasCause}
 use Rattle.qe_base.specs.Schemas.{Schema}
 use Rattle.qe_base.specs.declared.answer.Answer.{Answer}
 use Rattle.qe_base.specs.declared.answer.OpFault.{OpFault}
@@ -60,11 +60,18 @@ IsRefusal (replies.Refused index (fault.Rule broken)) = Unit {0}
 IsRefusal (replies.Refused index (fault.Misfit table column)) = Unit {0}
 IsRefusal _ = ⊥
 
+-- answers are answers, and refusals refusals
+abbrev pub IsOrderly : Ran → Type 0
+IsOrderly (Answered reply) = IsAnswer reply
+IsOrderly (Refused reply) = IsRefusal reply
+IsOrderly (Failed index first last) = Unit {0}
+IsOrderly Memory = Unit {0}
+
 -- Answers are those of the operations, whose changes are in the view; a refusal leaves the live tables; a fault has the
 -- connector's counts.
 abbrev pub RunsTo : Schema → What → Viewed → Viewed → Ran → Type 0
-RunsTo schema asked before after (Answered reply) = IsAnswer reply × Outcomes schema asked before.now reply after.now × CanGoBack before after
-RunsTo schema asked before after (Refused reply) = IsRefusal reply × Outcomes schema asked before.now reply before.now
+RunsTo schema asked before after (Answered reply) = Outcomes schema asked before.now reply after.now × CanGoBack before after
+RunsTo schema asked before after (Refused reply) = Outcomes schema asked before.now reply before.now
 RunsTo schema asked before after (Failed index first last) =
     ((outside : Outside) → FailsAt schema before.now outside asked index) × (first ≡ before.below.faults.count) × (last ≡ after.below.faults.count)
 RunsTo schema asked before after Memory = Unit {0}
@@ -87,15 +94,24 @@ only_reads _ = true
 
 -- The operations of an event were run over a view of this schema.
 pub record Runs (schema : Schema) (asked : What) (before after : Viewed) (ran : Ran) : Type 0 where
+  pub orderly : IsOrderly ran
   pub comes : RunsTo schema asked before after ran
   pub leaves : Leaves (calls_for schema asked) before after (fault_of ran)
   pub reads : only_reads asked ≡ true → after.past ≡ before.past
 
 -- ---- telling
 
+-- no fault came, and what can't fail goes on not to
+abbrev pub Calm : Faults → Faults → Type 0
+Calm before after = (after.count ≡ before.count) × (before.may_fail ≡ false → after.may_fail ≡ false)
+
 -- nothing was applied below, and no fault came
 abbrev pub Unchanged : Connected → Connected → Type 0
-Unchanged before after = (after.told ≡ before.told) × (after.faults ≡ before.faults)
+Unchanged before after = (after.told ≡ before.told) × Calm before.faults after.faults
+
+-- the changes are below
+abbrev pub IsMade : Viewed → Connected → Type 0
+IsMade before after = (after.told ≡ before.now) × Calm before.below.faults after.faults
 
 -- memory was short for a text or for changes
 abbrev pub IsShort : Reply → Viewed → Connected → Type 0
@@ -106,17 +122,23 @@ abbrev pub IsFault : Reply → Viewed → Connected → Type 0
 IsFault told before after =
     (told ≡ replies.Refused None (fault.Connector before.below.faults.count after.faults.count)) × (after.told ≡ before.below.told) × HasCause before.below.faults after.faults (Unit {0})
 
+-- what is told in place of an answer
+abbrev pub IsUnsettled : Reply → Viewed → Connected → Type 0
+IsUnsettled told before after = IsShort told before after ⊎ IsFault told before after
+
+-- without changes it shows the tables below
+abbrev pub IsStill : Viewed → Type 0
+IsStill seen = seen.past ≡ [] → seen.now ≡ seen.below.told
+
 -- An answer is told once its changes are below, a refusal and a fault without any.
 abbrev pub TellsOf : Ran → Reply → Viewed → Connected → Type 0
-TellsOf (Answered reply) told before after = ((told ≡ reply) × (after.told ≡ before.now) × (after.faults ≡ before.below.faults)) ⊎ (IsShort told before after ⊎ IsFault told before after)
+TellsOf (Answered reply) told before after = ((told ≡ reply) × IsMade before after) ⊎ IsUnsettled told before after
 TellsOf (Refused reply) told before after = ((told ≡ reply) × Unchanged before.below after) ⊎ IsShort told before after
 TellsOf (Failed index first last) told before after = (told ≡ replies.Refused index (fault.Connector first last)) × Unchanged before.below after
 TellsOf Memory told before after = IsShort told before after
 
--- What was run over a view is told so, and its changes are below or forgotten. What is below got one call at most, none
--- where nothing was changed.
-pub record Tells (ran : Ran) (told : Reply) (before : Viewed) (after : Connected) : Type 0 where
-  pub tells : TellsOf ran told before after
+-- What is below got one call at most to apply changes, none where nothing was changed.
+pub record AppliesOnce (before : Viewed) (after : Connected) : Type 0 where
   pub applied : ((after.calls ≡ before.below.calls) × (after.told ≡ before.below.told)) ⊎ (after.calls ≡ with_apply before.below.calls)
   pub idle : before.past ≡ [] → after.calls ≡ before.below.calls
   pub misfits : after.misfits ≡ before.below.misfits

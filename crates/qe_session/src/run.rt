@@ -1,14 +1,14 @@
 //! Running the operations of an event over a view, and telling what came of them.
-ghost use Rattle.std.specs.Prelude.{◌≡◌, [], true, None};
-ghost use Rattle.qe_base.specs.declared.event.Reply.{Reply};
+ghost use Rattle.std.specs.Prelude.{◌≡◌, ◌⊎◌, true, None, OnOk, IfErr};
+ghost use Rattle.qe_base.specs.Schemas.{Schema as SchemaSeen};
 ghost use Rattle.qe_base.specs.declared.event.Reply.TheVariants as replies;
 ghost use Rattle.qe_base.specs.declared.event.What.TheVariants as what;
 ghost use Rattle.qe_forms.specs.Reply.{told_text};
 ghost use Rattle.qe_overlay.specs.Held.{none_kept};
 ghost use Rattle.qe_session.specs.Handling.{is_handled};
-ghost use Rattle.qe_session.specs.Performing.{IsAnswer, Runs, Tells, ran_of};
+ghost use Rattle.qe_session.specs.Performing.{AppliesOnce, IsAnswer, IsMade, IsOrderly, IsStill, IsUnsettled, Runs, TellsOf, ran_of};
 ghost use Rattle.qe_session.specs.Standing.{InOrder, seen_in};
-ghost use Rattle.qe_session.specs.declared.run.Ran.TheVariants as ran;
+ghost use Rattle.qe_session.specs.declared.run.Ran.TheVariants as came;
 
 use crate::told::Told;
 use qe_base::{Answer, Op, OpFault, Reply};
@@ -54,7 +54,7 @@ fn ran_of(done: Result<Answer, OpFault>) -> Ran
 
 /// The refusal of an operation by itself.
 fn refused(fault: OpFault) -> Ran
-    ensures { result ≡ ran.Refused (replies.Refused None fault) }
+    ensures { result ≡ came.Refused (replies.Refused None fault) }
 {
     Ran::Refused(Reply::Refused { index: None, fault })
 }
@@ -78,48 +78,102 @@ pub fn run_single<C: Connector>(
     ran_of(done)
 }
 
-/// Tells an answer once its changes are below, if there are any.
-fn settle<C: Connector>(
-    reply: Reply,
-    text: Option<ReplyText>,
-    room: FaultRoom,
-    view: &mut OverlayView<C>,
-) -> Told
+/// Tells this, and lets go of an answer that isn't told.
+fn instead(reply: Reply, text: Option<ReplyText>, told: Told) -> Told
+    ensures { result ≡ told }
+{
+    drop(text);
+    drop(reply);
+    told
+}
+
+/// Forgets the changes of a view.
+fn forget<C: Connector>(view: &mut OverlayView<C>)
     requires order { InOrder C.seen view.old }
-    requires answer { IsAnswer reply }
-    requires text { text ≡ told_text view.old.schema reply }
-    requires still { (seen_in C.seen view.old).past ≡ [] → (seen_in C.seen view.old).now ≡ (C.seen view.old.below).told }
-    ensures tells { Tells (ran.Answered reply) result.reply (seen_in C.seen view.old) (C.seen view.new.below) }
-    ensures text { result.text ≡ told_text view.old.schema result.reply }
+    ensures rest { view.new.overlay ≡ none_kept }
+    ensures below { C.seen view.new.below ≡ C.seen view.old.below }
+    ensures order { InOrder C.seen view.new }
+    ensures schema { view.new.schema ≡ view.old.schema }
+{
+    view.forget();
+}
+
+/// Makes the changes of a view below, if there are any, or says what is told in place of an answer. Then the view has
+/// none.
+fn settle<C: Connector>(room: FaultRoom, view: &mut OverlayView<C>) -> Result<(), Told>
+    requires order { InOrder C.seen view.old }
+    requires still { IsStill (seen_in C.seen view.old) }
+    ensures ok { OnOk result (IsMade (seen_in C.seen view.old) (C.seen view.new.below)) }
+    ensures err { IfErr result (λ told. IsUnsettled told.reply (seen_in C.seen view.old) (C.seen view.new.below)) }
+    ensures text { IfErr result (λ told. (schema : SchemaSeen) → told.text ≡ told_text schema told.reply) }
+    ensures calls { AppliesOnce (seen_in C.seen view.old) (C.seen view.new.below) }
     ensures rest { view.new.overlay ≡ none_kept }
     ensures order { InOrder C.seen view.new }
     ensures schema { view.new.schema ≡ view.old.schema }
 {
     if view.mark().0 == 0 {
-        view.forget();
-        return Told { reply, text };
+        forget(view);
+        return Ok(());
     }
     let before = view.faults();
     match view.settle() {
-        Ok(()) => Told { reply, text },
+        Ok(()) => Ok(()),
         Err(ConnFault::Failed) => {
             let after = view.faults();
-            view.forget();
-            Told::fault(room, None, before, after)
+            forget(view);
+            Err(Told::fault(room, None, before, after))
         }
         Err(ConnFault::Misfit { .. }) => {
-            view.forget();
-            Told::memory()
+            forget(view);
+            Err(Told::memory())
         }
         Err(ConnFault::Memory) => {
-            view.forget();
-            Told::memory()
+            forget(view);
+            Err(Told::memory())
         }
     }
 }
 
-/// Tells what was run over a view: an answer once its changes are below, all else with the changes forgotten. The
-/// text is made before anything is applied.
+/// Tells an answer once its changes are below. Its text is made before.
+fn tell_answer<C: Connector>(
+    alloc: Global,
+    schema: &Schema,
+    reply: Reply,
+    room: FaultRoom,
+    view: &mut OverlayView<C>,
+) -> Told
+    requires order { InOrder C.seen view.old }
+    requires still { IsStill (seen_in C.seen view.old) }
+    requires answer { IsAnswer reply }
+    ensures tells { TellsOf (came.Answered reply) result.reply (seen_in C.seen view.old) (C.seen view.new.below) }
+    ensures text { result.text ≡ told_text schema.now result.reply }
+    ensures calls { AppliesOnce (seen_in C.seen view.old) (C.seen view.new.below) }
+    ensures rest { view.new.overlay ≡ none_kept }
+    ensures order { InOrder C.seen view.new }
+    ensures schema { view.new.schema ≡ view.old.schema }
+{
+    let Ok(text) = write_reply(alloc, schema, &reply) else {
+        forget(view);
+        return instead(reply, None, Told::memory());
+    };
+    match settle(room, view) {
+        Ok(()) => Told { reply, text },
+        Err(told) => instead(reply, text, told),
+    }
+}
+
+/// Tells a refusal.
+fn tell_refusal(alloc: Global, schema: &Schema, reply: Reply) -> Told
+    ensures reply { (result.reply ≡ reply) ⊎ (result.reply ≡ replies.Memory) }
+    ensures text { result.text ≡ told_text schema.now result.reply }
+{
+    match write_reply(alloc, schema, &reply) {
+        Ok(text) => Told { reply, text },
+        Err(_) => instead(reply, None, Told::memory()),
+    }
+}
+
+/// Tells what was run over a view: an answer once its changes are below, all else with the changes forgotten.
 pub fn tell<C: Connector>(
     alloc: Global,
     schema: &Schema,
@@ -128,42 +182,32 @@ pub fn tell<C: Connector>(
     view: &mut OverlayView<C>,
 ) -> Told
     requires order { InOrder C.seen view.old }
-    requires schema { view.old.schema ≡ schema.now }
-    requires still { (seen_in C.seen view.old).past ≡ [] → (seen_in C.seen view.old).now ≡ (C.seen view.old.below).told }
-    requires answer { (reply : Reply) → ran ≡ ran.Answered reply → IsAnswer reply }
-    ensures tells { Tells ran result.reply (seen_in C.seen view.old) (C.seen view.new.below) }
+    requires still { IsStill (seen_in C.seen view.old) }
+    requires orderly { IsOrderly ran }
+    ensures tells { TellsOf ran result.reply (seen_in C.seen view.old) (C.seen view.new.below) }
     ensures text { result.text ≡ told_text schema.now result.reply }
+    ensures calls { AppliesOnce (seen_in C.seen view.old) (C.seen view.new.below) }
     ensures rest { view.new.overlay ≡ none_kept }
     ensures order { InOrder C.seen view.new }
-    ensures schema { view.new.schema ≡ schema.now }
+    ensures schema { view.new.schema ≡ view.old.schema }
 {
     match ran {
-        Ran::Answered(reply) => match write_reply(alloc, schema, &reply) {
-            Ok(text) => settle(reply, text, room, view),
-            Err(_) => forget(view, Told::memory()),
-        },
-        Ran::Refused(reply) => match write_reply(alloc, schema, &reply) {
-            Ok(text) => forget(view, Told { reply, text }),
-            Err(_) => forget(view, Told::memory()),
-        },
+        Ran::Answered(reply) => tell_answer(alloc, schema, reply, room, view),
+        Ran::Refused(reply) => {
+            forget(view);
+            tell_refusal(alloc, schema, reply)
+        }
         Ran::Failed {
             index,
             before,
             after,
-        } => forget(view, Told::fault(room, index, before, after)),
-        Ran::Memory => forget(view, Told::memory()),
+        } => {
+            forget(view);
+            Told::fault(room, index, before, after)
+        }
+        Ran::Memory => {
+            forget(view);
+            Told::memory()
+        }
     }
-}
-
-/// Forgets the changes of a view.
-fn forget<C: Connector>(view: &mut OverlayView<C>, told: Told) -> Told
-    requires order { InOrder C.seen view.old }
-    ensures told { result ≡ told }
-    ensures rest { view.new.overlay ≡ none_kept }
-    ensures below { view.new.below ≡ view.old.below }
-    ensures order { InOrder C.seen view.new }
-    ensures schema { view.new.schema ≡ view.old.schema }
-{
-    view.forget();
-    told
 }
