@@ -1,2 +1,3 @@
 pub mod Resting
 pub mod Running
+pub mod Stepping

@@ -1,9 +1,10 @@
 -- What handling an event does.
-use Rattle.std.specs.Prelude.{◌≡◌, ◌⊎◌, ℕ, ◌≤◌, ◌<◌, ◌&&◌, Bool, true, List, [], ◌∷◌, ◌++◌, length, is_some}
+use Rattle.std.specs.Prelude.{◌≡◌, ◌⊎◌, ℕ, ◌≤◌, ◌<◌, ◌&&◌, Bool, true, List, [], ◌∷◌, ◌++◌, length, is_some, Option}
 use Rattle.std.specs.List.{list_all}
 use Rattle.qe_base.specs.Causes.{HasCause, Rose}
 use Rattle.qe_base.specs.Schemas.{Schema}
 use Rattle.qe_base.specs.declared.answer.OpFault.TheVariants as fault
+use Rattle.qe_base.specs.declared.answer.Outside.{Outside}
 use Rattle.qe_base.specs.declared.event.Entry.{Entry}
 use Rattle.qe_base.specs.declared.event.Event.{Event}
 use Rattle.qe_base.specs.declared.event.Reply.{Reply}
@@ -12,13 +13,13 @@ use Rattle.qe_base.specs.declared.event.What.{What}
 use Rattle.qe_base.specs.declared.event.What.TheVariants as what
 use Rattle.qe_base.specs.declared.write.Op.{Op}
 use Rattle.qe_history.specs.History.{IsGreeting, MayCall}
-use Rattle.qe_history.specs.State.{State, Step}
+use Rattle.qe_history.specs.State.{FailsAt, RefusesUnseen, State, Step}
 use Rattle.qe_reading.specs.CarriedOut.{is_carried_out}
 use Rattle.qe_writing.specs.WriteFits.{op_fits}
 use Rattle.qe_view.specs.Attached.{Connected}
 use Rattle.qe_view.specs.Calls.{CallCounts, MakesAtMost, more}
 use Rattle.qe_ops.specs.Bounds.{both_calls}
-use Rattle.qe_session.specs.Performing.{calls_for, only_reads}
+use Rattle.qe_session.specs.Performing.{Calm, Outcomes, Unchanged, calls_for, only_reads}
 use Rattle.qe_session.specs.Standing.{StandsFor, StandsForState}
 
 -- ---- which events are handled so far
@@ -35,6 +36,10 @@ Fits schema (what.Batch ops) = (list_all (is_handled schema) ops ≡ true) × (0
 Fits schema _ = ⊥
 
 -- ---- histories
+
+-- the caller is told that it hasn't seen so far, unless memory is short for that
+abbrev pub TellsUnseen : ℕ → Option ℕ → Reply → Type 0
+TellsUnseen place seen reply = RefusesUnseen place seen reply ⊎ (reply ≡ replies.Memory)
 
 -- from each state that was stood for this is a step to one that now is
 abbrev pub Moves : Schema → ℕ → Event → Reply → Connected → Connected → Type 0
@@ -79,3 +84,24 @@ pub record Calls (schema : Schema) (asked : What) (before after : Connected) : T
   pub applied : ((after.calls.applies ≡ before.calls.applies) × (after.told ≡ before.told)) ⊎ (after.calls.applies ≡ more before.calls.applies)
   pub reads : only_reads asked ≡ true → after.calls.applies ≡ before.calls.applies
   pub greeting : IsGreeting asked → after.calls ≡ before.calls
+
+-- ---- what an event with operations does, once what its caller had seen was tested
+
+-- the connector failed at the operations, and tells its counts before and after
+pub record DoesFail (schema : Schema) (asked : What) (reply : Reply) (before after : Connected) : Type 0 where
+  pub index : Option ℕ
+  pub replied : reply ≡ replies.Refused index (fault.Connector before.faults.count after.faults.count)
+  pub fails : (outside : Outside) → FailsAt schema before.told outside asked index
+  pub told : after.told ≡ before.told
+  pub cause : HasCause before.faults after.faults (Unit {0})
+
+-- the reply and the tables after it are an outcome of the operations, or memory was short, or the connector failed
+abbrev pub DoesAs : Schema → What → Reply → Connected → Connected → Type 0
+DoesAs schema asked reply before after =
+    (Outcomes schema asked before.told reply after.told × Calm before.faults after.faults) ⊎ (((reply ≡ replies.Memory) × Unchanged before after) ⊎ DoesFail schema asked reply before after)
+
+pub record Does (schema : Schema) (asked : What) (reply : Reply) (before after : Connected) : Type 0 where
+  pub done : DoesAs schema asked reply before after
+  pub causes : HasCauses reply before after
+  pub calls : Calls schema asked before after
+  pub attached : after.attached ≡ before.attached
