@@ -1,0 +1,14 @@
+//! The lines of an input, answered by a core.
+#![tactic(auto)]
+
+/// How the lines of an input ended.
+#[derive(Clone, Copy, Debug, PartialEq, Eq)]
+pub enum LinesEnd {
+    /// The input was read to its end.
+    Done,
+    /// The input has more than 67,108,864 bytes.
+    LongInput,
+    ReadFault,
+    WriteFault,
+    Memory,
+}
