@@ -1,5 +1,6 @@
 -- The state of the engine, and one step of it.
-use Rattle.std.specs.Prelude.{◌≡◌, ◌⊎◌, ℕ, ◌<◌, ◌-◌, ◌^◌, Bool, true, false, List, length, take, Option, Some, None, Result, Ok, Err, IsOk, IfSome, nat_lt}
+use Rattle.std.specs.Prelude.{◌≡◌, ◌⊎◌, ℕ, ◌<◌, Bool, true, false, List, length, take, Option, Some, None, Result, Ok, Err, IsOk, IfSome, nat_lt}
+use Rattle.qe_base.specs.Causes.{Rose}
 use Rattle.qe_base.specs.Schemas.{Schema}
 use Rattle.qe_base.specs.declared.answer.Answer.{Answer}
 use Rattle.qe_base.specs.declared.answer.Rule.{Rule}
@@ -119,10 +120,6 @@ abbrev pub WantsMemory : State → What → Reply → State → Type 0
 WantsMemory before what.Hello reply after = ⊥
 WantsMemory before _ reply after = (reply ≡ replies.Memory) × (after ≡ before)
 
--- a count that rose, or that stands at the last value of 64 bits
-abbrev pub IsLater : ℕ → ℕ → Type 0
-IsLater first last = (first < last) ⊎ ((first ≡ 2 ^ 64 - 1) × (last ≡ 2 ^ 64 - 1))
-
 -- The operations before this index of a batch are accepted over the told tables.
 abbrev pub AreAccepted : Schema → Option Tables → Outside → List Op → ℕ → Type 0
 AreAccepted schema told outside ops index = IfSome told (λ live. IsOk (plain_all schema (take index ops) outside live).answers)
@@ -139,7 +136,7 @@ FailsAt schema told outside _ _ = ⊥
 -- event, which is that of the last fault, and at the fault are told, and the live tables stay.
 abbrev pub Fails : State → ℕ → Event → Reply → State → Type 0
 Fails before place event (replies.Refused index (fault.Connector first last)) after =
-    (before.steady ≡ false) × (has_seen event.seen place ≡ true) × FailsAt before.schema before.live event.outside event.what index × (first ≡ before.faults) × IsLater first last × (after ≡ record before { faults = last })
+    (before.steady ≡ false) × (has_seen event.seen place ≡ true) × FailsAt before.schema before.live event.outside event.what index × (first ≡ before.faults) × Rose first last × (after ≡ record before { faults = last })
 Fails before place event _ after = ⊥
 
 -- An event at a place may be replied to so, and leads from one state to the other.

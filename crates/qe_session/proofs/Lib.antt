@@ -1,3 +1,4 @@
+pub mod Joining
 pub mod Resting
 pub mod Running
 pub mod Stepping

@@ -1,12 +1,15 @@
 -- A view without changes.
-use Rattle.std.proofs.Common.{◌≡◌, [], Bool, true, false, not, refl, sym, subst}
+use Rattle.std.proofs.Common.{◌≡◌, [], Bool, true, false, not, ap, refl, sym, subst, Option, Some, None, option_map}
 use Rattle.std.proofs.lemmas.Bool.{false≢true}
 use Rattle.qe_base.specs.Schemas.{Schema}
 use Rattle.qe_history.specs.History.{Opened}
-use Rattle.qe_overlay.specs.Fits.{HasLayout, Stands}
-use Rattle.qe_overlay.specs.Held.{Held, KeptLayers, held_in, none_kept}
-use Rattle.qe_overlay.proofs.Starting.{empty_stands}
+use Rattle.qe_overlay.specs.Fits.{HasLayout, Stands, viewed_by}
+use Rattle.qe_overlay.specs.Held.{Held, KeptLayers, held_in, layers_in, none_kept}
+use Rattle.qe_overlay.specs.Layers.{seen}
+use Rattle.qe_overlay.proofs.Starting.{empty_stands, seen_none}
 use Rattle.qe_schema.specs.Sound.{IsSound}
+use Rattle.qe_schema.specs.Tables.{Tables}
+use Rattle.qe_session.proofs.Joining.{AtRest}
 use Rattle.qe_view.specs.Attached.{Connected, FitLayout}
 use Rattle.qe_view.specs.Layouts.{layout_of}
 use Rattle.qe_session.specs.Standing.{IsReady, StandsFor, first_state}
@@ -36,3 +39,11 @@ first schema below after is = subst (λ (b : Connected). StandsFor schema b (fir
   legal = Opened;
   stands = record { schema_is = refl; live = refl; faults = refl; steady = steady below.faults.may_fail };
 })
+
+seen_as_told : (schema : Schema) (told : Option Tables) → option_map (seen schema (layers_in [])) told ≡ told
+seen_as_told schema None = refl
+seen_as_told schema (Some tables) = ap Some (seen_none schema tables)
+
+-- a view without changes shows what is below
+pub at_rest : (schema : Schema) (overlay : KeptLayers) (below : Connected) → overlay ≡ none_kept → AtRest (viewed_by schema overlay below)
+at_rest schema overlay below none = subst (λ (kept : KeptLayers). AtRest (viewed_by schema kept below)) (sym none) (record { now = seen_as_told schema below.told; past = refl })

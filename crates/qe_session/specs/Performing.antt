@@ -130,6 +130,11 @@ IsUnsettled told before after = IsShort told before after ⊎ IsFault told befor
 abbrev pub IsStill : Viewed → Type 0
 IsStill seen = seen.past ≡ [] → seen.now ≡ seen.below.told
 
+-- what can be told of a view: an answer whose changes are all that it shows, or a refusal
+abbrev pub IsTellable : Ran → Viewed → Type 0
+IsTellable (Answered reply) seen = IsAnswer reply × IsStill seen
+IsTellable _ seen = Unit {0}
+
 -- An answer is told once its changes are below, a refusal and a fault without any.
 abbrev pub TellsOf : Ran → Reply → Viewed → Connected → Type 0
 TellsOf (Answered reply) told before after = ((told ≡ reply) × IsMade before after) ⊎ IsUnsettled told before after

@@ -1,17 +1,19 @@
 //! The core.
 ghost use Rattle.std.specs.Prelude.{◌≡◌, [], IfOk, IfErr, IsNone, IfSome, true, false};
+ghost use Rattle.qe_base.specs.declared.event.What.TheVariants as what;
 ghost use Rattle.qe_forms.specs.Reply.{told_text};
 ghost use Rattle.qe_history.specs.State.{has_seen};
 ghost use Rattle.qe_overlay.specs.Fits.{HasLayout};
-ghost use Rattle.qe_session.specs.Handling.{Calls, Fits, GoesOn, HasCauses, Moves, TellsUnseen};
+ghost use Rattle.qe_session.specs.Handling.{Calls, Does, Fits, GoesOn, HasCauses, Moves, TellsUnseen, is_handled};
 ghost use Rattle.qe_session.specs.Standing.{Ready, StandsFor, first_state};
 ghost use Rattle.qe_view.specs.Attached.{FitLayout};
 ghost use Rattle.qe_view.specs.Layouts.{layout_of};
 
+use crate::run::{run_single, tell};
 use crate::told::Told;
-use qe_base::{Event, Memory, Reply, Shared, What};
+use qe_base::{Event, Memory, Op, Reply, Shared, What};
 use qe_overlay::{Overlay, OverlayView};
-use qe_reply::write_reply;
+use qe_reply::{FaultRoom, write_reply};
 use qe_schema::Schema;
 use qe_view::Connector;
 use std::alloc::Global;
@@ -83,6 +85,22 @@ impl<C: Connector> Core<C> {
         }
     }
 
+    /// Carries out an operation by itself.
+    fn single(&mut self, op: &Op) -> Told
+        requires ready { Ready C.seen self.old }
+        requires handled { is_handled self.old.schema op.now ≡ true }
+        ensures does { Does self.old.schema (what.Single op.now) result.reply (C.seen self.old.view.below) (C.seen self.new.view.below) }
+        ensures text { result.text ≡ told_text self.old.schema result.reply }
+        ensures schema { self.new.schema ≡ self.old.schema }
+        ensures ready { Ready C.seen self.new }
+    {
+        let Ok(room) = FaultRoom::new(self.alloc) else {
+            return Told::memory();
+        };
+        let ran = run_single(self.alloc, self.schema.get(), op, &mut self.view);
+        tell(self.alloc, self.schema.get(), ran, room, &mut self.view)
+    }
+
     /// Moves on by an event: tests what its caller has seen, and carries out its operations.
     fn move_on(&mut self, place: u64, event: &Event) -> Told
         requires ready { Ready C.seen self.old }
@@ -97,9 +115,9 @@ impl<C: Connector> Core<C> {
     {
         match &event.what {
             What::Hello => Told::hello(),
-            What::Single(_) => match self.unseen(place, event.seen) {
+            What::Single(op) => match self.unseen(place, event.seen) {
                 Some(told) => told,
-                None => Told::memory(),
+                None => self.single(op),
             },
             What::Batch(_) => Told::memory(),
             What::Start(_) => unreachable!(),

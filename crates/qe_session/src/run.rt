@@ -6,7 +6,7 @@ ghost use Rattle.qe_base.specs.declared.event.What.TheVariants as what;
 ghost use Rattle.qe_forms.specs.Reply.{told_text};
 ghost use Rattle.qe_overlay.specs.Held.{none_kept};
 ghost use Rattle.qe_session.specs.Handling.{is_handled};
-ghost use Rattle.qe_session.specs.Performing.{AppliesOnce, IsAnswer, IsMade, IsOrderly, IsStill, IsUnsettled, Runs, TellsOf, ran_of};
+ghost use Rattle.qe_session.specs.Performing.{AppliesOnce, IsAnswer, IsMade, IsStill, IsTellable, IsUnsettled, Runs, TellsOf, ran_of};
 ghost use Rattle.qe_session.specs.Standing.{InOrder, seen_in};
 ghost use Rattle.qe_session.specs.declared.run.Ran.TheVariants as came;
 
@@ -182,8 +182,7 @@ pub fn tell<C: Connector>(
     view: &mut OverlayView<C>,
 ) -> Told
     requires order { InOrder C.seen view.old }
-    requires still { IsStill (seen_in C.seen view.old) }
-    requires orderly { IsOrderly ran }
+    requires tellable { IsTellable ran (seen_in C.seen view.old) }
     ensures tells { TellsOf ran result.reply (seen_in C.seen view.old) (C.seen view.new.below) }
     ensures text { result.text ≡ told_text schema.now result.reply }
     ensures calls { AppliesOnce (seen_in C.seen view.old) (C.seen view.new.below) }
