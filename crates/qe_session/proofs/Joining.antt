@@ -1,5 +1,5 @@
 -- What was run over a view and then told is what an event does.
-use Rattle.std.proofs.Common.{◌≡◌, ◌⊎◌, inl, inr, ℕ, true, false, [], ◌∷◌, ◌++◌, slice_get, refl, sym, ap, subst, ◌∙◌, arith, rules, Option, Some, None, is_some, List, length, Result, Ok, Err, IsOk}
+use Rattle.std.proofs.Common.{◌≡◌, ◌⊎◌, inl, inr, ℕ, true, false, [], refl, sym, ap, subst, ◌∙◌, arith, Option, Some, None, is_some, List, Result, Ok, Err, IsOk}
 use Rattle.std.proofs.Math.Seq.{take-length}
 use Rattle.qe_base.specs.Causes.{Faults, HasCause, Rose}
 use Rattle.qe_base.specs.Schemas.{Schema}
@@ -10,7 +10,7 @@ use Rattle.qe_base.specs.declared.event.Reply.TheVariants as replies
 use Rattle.qe_base.specs.declared.event.What.{What}
 use Rattle.qe_history.specs.History.{IsGreeting}
 use Rattle.qe_history.specs.State.{FailsAt, Outcome, batch_reply}
-use Rattle.qe_ops.specs.Leaves.{CanGoBack, IsFailed, IsMisfitFault, Leaves}
+use Rattle.qe_ops.specs.Leaves.{IsFailed, IsMisfitFault, Leaves}
 use Rattle.qe_schema.specs.Tables.{Tables}
 use Rattle.qe_writing.specs.Batch.{Refusal, plain_all}
 use Rattle.qe_base.specs.declared.answer.Answer.{Answer}
@@ -22,23 +22,23 @@ use Rattle.qe_view.specs.declared.changes.ConnFault.{ConnFault}
 use Rattle.qe_ops.specs.Bounds.{both_calls}
 use Rattle.qe_base.specs.declared.event.What.TheVariants as what
 use Rattle.qe_session.specs.Handling.{Calls, Does, DoesAs, HasCauses, IsFault, IsMisfit, TellsCounts, one_apply}
-use Rattle.qe_session.specs.Performing.{AppliesOnce, Calm, IsAnswer, IsRefusal, IsStill, IsTellable, Outcomes, Runs, TellsOf, calls_for, fault_of, misfit_in, only_reads}
+use Rattle.qe_session.specs.Performing.{AppliesOnce, Calm, IsAnswer, IsRefusal, IsStill, IsTellable, Keeps, Outcomes, Runs, TellsOf, calls_for, fault_of, misfit_in, only_reads}
 use Rattle.qe_session.specs.declared.run.Ran.{Ran}
 use Rattle.qe_session.specs.declared.run.Ran.TheVariants.{Answered, Refused, Failed, Memory}
 
 -- ---- faults
 
-calm : {failed : Type 0} (before after : Faults) → HasCause before after failed → (failed → ⊥) → Calm before after
+pub calm : {failed : Type 0} (before after : Faults) → HasCause before after failed → (failed → ⊥) → Calm before after
 calm before after cause none = (cause.counted.still none, λ sure. ap (λ (f : Faults). f.may_fail) (cause.never sure).1 ∙ sure)
 
-then_calm : (a b c : Faults) → Calm a b → Calm b c → Calm a c
+pub then_calm : (a b c : Faults) → Calm a b → Calm b c → Calm a c
 then_calm a b c one other = (other.0 ∙ one.0, λ sure. other.1 (one.1 sure))
 
 same_faults : (before after : Faults) → Calm before after → before.may_fail ≡ false → after ≡ before
 same_faults before after still sure = λ i. record { count = still.0 i; may_fail = (still.1 sure ∙ sym sure) i }
 
 -- no fault came, and none is told
-no_fault : {failed : Type 0} (before after : Faults) → Calm before after → (failed → ⊥) → HasCause before after failed
+pub no_fault : {failed : Type 0} (before after : Faults) → Calm before after → (failed → ⊥) → HasCause before after failed
 no_fault before after still none = record {
   counted = record { later = grind (arith, still.0); rose = λ failed. absurd (none failed); still = λ _. still.0 };
   never = λ sure. (none, same_faults before after still sure);
@@ -51,7 +51,7 @@ one_fault a b c still cause = record {
   never = λ sure. absurd ((cause.never (still.1 sure)).0 tt);
 }
 
-to_unit : {failed : Type 0} (a b : Faults) → HasCause a b failed → failed → HasCause a b (Unit {0})
+pub to_unit : {failed : Type 0} (a b : Faults) → HasCause a b failed → failed → HasCause a b (Unit {0})
 to_unit a b cause failed = record {
   counted = record { later = cause.counted.later; rose = λ _. cause.counted.rose failed; still = λ none. absurd (none tt) };
   never = λ sure. absurd ((cause.never sure).0 failed);
@@ -263,13 +263,8 @@ joined schema asked before mid after ran told none rest runs tells once =
     }
 
 -- without changes the view shows what is below
-still : (before mid : Viewed) → AtRest before → CanGoBack before mid → mid.below.told ≡ before.below.told → IsStill mid
-still before mid rest back told past =
-    let before_past : before.past ≡ [] = rest.past in
-    let at : slice_get (mid.past ++ mid.now ∷ []) (length before.past) ≡ Some before.now = back.now in
-    let first : slice_get (mid.now ∷ []) 0 ≡ Some before.now = subst (λ past. slice_get (past ++ mid.now ∷ []) 0 ≡ Some before.now) past (subst (λ past. slice_get (mid.past ++ mid.now ∷ []) (length past) ≡ Some before.now) before_past at) in
-    let now : mid.now ≡ before.now = search (rules, first) in
-    now ∙ rest.now ∙ sym told
+still : (before mid : Viewed) → AtRest before → Keeps before mid → mid.below.told ≡ before.below.told → IsStill mid
+still before mid rest kept told past = (kept past).1 ∙ rest.now ∙ sym told
 
 pub tellable : (schema : Schema) (asked : What) (before mid : Viewed) (ran : Ran) → AtRest before → Runs schema asked before mid ran → IsTellable ran mid
 tellable schema asked before mid (Answered reply) rest runs = (runs.orderly, still before mid rest runs.comes.1 (told_same before mid runs.leaves.below))

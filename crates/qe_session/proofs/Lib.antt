@@ -1,3 +1,4 @@
+pub mod Batches
 pub mod Joining
 pub mod Resting
 pub mod Running

@@ -14,7 +14,7 @@ use Rattle.qe_base.specs.declared.event.What.TheVariants as what
 use Rattle.qe_base.specs.declared.write.Op.{Op}
 use Rattle.qe_history.specs.State.{ComesOf, FailsAt}
 use Rattle.qe_ops.specs.Bounds.{both_calls, calls_of, reads_alone}
-use Rattle.qe_ops.specs.Leaves.{CanGoBack, Leaves}
+use Rattle.qe_ops.specs.Leaves.{Leaves}
 use Rattle.qe_schema.specs.Tables.{Tables}
 use Rattle.qe_view.specs.Attached.{Connected}
 use Rattle.qe_view.specs.Calls.{CallCounts, no_calls, with_apply}
@@ -67,10 +67,14 @@ IsOrderly (Refused reply) = IsRefusal reply
 IsOrderly (Failed index first last) = Unit {0}
 IsOrderly Memory = Unit {0}
 
+-- where no change can be taken back none was made
+abbrev pub Keeps : Viewed → Viewed → Type 0
+Keeps before after = after.past ≡ [] → (before.past ≡ []) × (after.now ≡ before.now)
+
 -- Answers are those of the operations, whose changes are in the view; a refusal leaves the live tables; a fault has the
 -- connector's counts.
 abbrev pub RunsTo : Schema → What → Viewed → Viewed → Ran → Type 0
-RunsTo schema asked before after (Answered reply) = Outcomes schema asked before.now reply after.now × CanGoBack before after
+RunsTo schema asked before after (Answered reply) = Outcomes schema asked before.now reply after.now × Keeps before after
 RunsTo schema asked before after (Refused reply) = Outcomes schema asked before.now reply before.now
 RunsTo schema asked before after (Failed index first last) =
     ((outside : Outside) → FailsAt schema before.now outside asked index) × (first ≡ before.below.faults.count) × (last ≡ after.below.faults.count)

@@ -1,5 +1,6 @@
 //! The core.
 ghost use Rattle.std.specs.Prelude.{◌≡◌, [], IfOk, IfErr, IsNone, IfSome, true, false};
+ghost use Rattle.std.specs.List.{list_all};
 ghost use Rattle.qe_base.specs.declared.event.What.TheVariants as what;
 ghost use Rattle.qe_forms.specs.Reply.{told_text};
 ghost use Rattle.qe_history.specs.State.{has_seen};
@@ -9,7 +10,7 @@ ghost use Rattle.qe_session.specs.Standing.{Ready, StandsFor, first_state};
 ghost use Rattle.qe_view.specs.Attached.{FitLayout};
 ghost use Rattle.qe_view.specs.Layouts.{layout_of};
 
-use crate::run::{run_single, tell};
+use crate::run::{run_batch, run_single, tell};
 use crate::told::Told;
 use qe_base::{Event, Memory, Op, Reply, Shared, What};
 use qe_overlay::{Overlay, OverlayView};
@@ -101,6 +102,22 @@ impl<C: Connector> Core<C> {
         tell(self.alloc, self.schema.get(), ran, room, &mut self.view)
     }
 
+    /// Carries out the operations of a batch, all of them or none.
+    fn batch(&mut self, ops: &[Op]) -> Told
+        requires ready { Ready C.seen self.old }
+        requires handled { list_all (is_handled self.old.schema) ops.now ≡ true }
+        ensures does { Does self.old.schema (what.Batch ops.now) result.reply (C.seen self.old.view.below) (C.seen self.new.view.below) }
+        ensures text { result.text ≡ told_text self.old.schema result.reply }
+        ensures schema { self.new.schema ≡ self.old.schema }
+        ensures ready { Ready C.seen self.new }
+    {
+        let Ok(room) = FaultRoom::new(self.alloc) else {
+            return Told::memory();
+        };
+        let ran = run_batch(self.alloc, self.schema.get(), ops, &mut self.view);
+        tell(self.alloc, self.schema.get(), ran, room, &mut self.view)
+    }
+
     /// Moves on by an event: tests what its caller has seen, and carries out its operations.
     fn move_on(&mut self, place: u64, event: &Event) -> Told
         requires ready { Ready C.seen self.old }
@@ -119,7 +136,10 @@ impl<C: Connector> Core<C> {
                 Some(told) => told,
                 None => self.single(op),
             },
-            What::Batch(_) => Told::memory(),
+            What::Batch(ops) => match self.unseen(place, event.seen) {
+                Some(told) => told,
+                None => self.batch(ops.as_slice()),
+            },
             What::Start(_) => unreachable!(),
             What::Step(_, _) => unreachable!(),
             What::Commit(_) => unreachable!(),

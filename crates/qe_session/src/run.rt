@@ -5,13 +5,15 @@ ghost use Rattle.qe_base.specs.declared.event.Reply.TheVariants as replies;
 ghost use Rattle.qe_base.specs.declared.event.What.TheVariants as what;
 ghost use Rattle.qe_forms.specs.Reply.{told_text};
 ghost use Rattle.qe_overlay.specs.Held.{none_kept};
+ghost use Rattle.std.specs.List.{list_all};
+ghost use Rattle.qe_session.specs.Batches.{Ends, refused_at};
 ghost use Rattle.qe_session.specs.Handling.{is_handled};
 ghost use Rattle.qe_session.specs.Performing.{AppliesOnce, IsAnswer, IsMade, IsStill, IsTellable, IsUnsettled, Runs, TellsOf, ran_of};
 ghost use Rattle.qe_session.specs.Standing.{InOrder, seen_in};
 ghost use Rattle.qe_session.specs.declared.run.Ran.TheVariants as came;
 
 use crate::told::Told;
-use qe_base::{Answer, Op, OpFault, Reply};
+use qe_base::{Answer, Items, Op, OpFault, Reply};
 use qe_ops::run_op;
 use qe_overlay::OverlayView;
 use qe_reply::{FaultRoom, ReplyText, write_reply};
@@ -76,6 +78,75 @@ pub fn run_single<C: Connector>(
 {
     let done = run_op(alloc, schema, op, view);
     ran_of(done)
+}
+
+/// What the operation of an index came to, where it was refused.
+fn refused_at(index: u64, fault: OpFault) -> Ran
+    ensures { result ≡ refused_at index fault }
+{
+    let index = Some(index);
+    match fault {
+        OpFault::Rule(rule) => Ran::Refused(Reply::Refused {
+            index,
+            fault: OpFault::Rule(rule),
+        }),
+        OpFault::Connector { before, after } => Ran::Failed {
+            index,
+            before,
+            after,
+        },
+        OpFault::Misfit { table, column } => Ran::Refused(Reply::Refused {
+            index,
+            fault: OpFault::Misfit { table, column },
+        }),
+        OpFault::Memory => Ran::Memory,
+    }
+}
+
+/// Runs one operation of a batch.
+fn run_one<C: Connector>(
+    alloc: Global,
+    schema: &Schema,
+    op: &Op,
+    view: &mut OverlayView<C>,
+) -> Result<Answer, OpFault>
+    requires order { InOrder C.seen view.old }
+    requires schema { view.old.schema ≡ schema.now }
+    requires handled { is_handled schema.now op.now ≡ true }
+    ensures ends { Ends schema.now op.now (seen_in C.seen view.old) (seen_in C.seen view.new) result }
+    ensures order { InOrder C.seen view.new }
+    ensures schema { view.new.schema ≡ schema.now }
+{
+    run_op(alloc, schema, op, view)
+}
+
+/// Runs operations one after another, up to the first that is refused.
+pub fn run_batch<C: Connector>(
+    alloc: Global,
+    schema: &Schema,
+    ops: &[Op],
+    view: &mut OverlayView<C>,
+) -> Ran
+    requires order { InOrder C.seen view.old }
+    requires schema { view.old.schema ≡ schema.now }
+    requires handled { list_all (is_handled schema.now) ops.now ≡ true }
+    ensures runs { Runs schema.now (what.Batch ops.now) (seen_in C.seen view.old) (seen_in C.seen view.new) result }
+    ensures order { InOrder C.seen view.new }
+    ensures schema { view.new.schema ≡ schema.now }
+{
+    let mut answers = Items::new(alloc);
+    for op in ops {
+        let index = answers.len() as u64;
+        match run_one(alloc, schema, op, view) {
+            Ok(answer) => {
+                if answers.push(answer).is_err() {
+                    return Ran::Memory;
+                }
+            }
+            Err(fault) => return refused_at(index, fault),
+        }
+    }
+    Ran::Answered(Reply::Answers(answers))
 }
 
 /// Tells this, and lets go of an answer that isn't told.
