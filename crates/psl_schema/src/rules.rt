@@ -6,6 +6,7 @@ use crate::breach::Breach;
 use crate::fields::{broken_attribute, broken_block, broken_key, broken_type};
 use crate::relations::{broken_pair, broken_reference, broken_store};
 use psl_parts::Types;
+use psl_relations::TreeIndex;
 use psl_text::Tree;
 use qe_text::Memory;
 use std::alloc::Global;
@@ -28,11 +29,12 @@ pub fn first_breach(alloc: Global, tree: &Tree) -> Result<Option<Breach>, Memory
     if let Some(breach) = broken_key(alloc, tree)? {
         return Ok(Some(breach));
     }
-    if let Some(breach) = broken_pair(alloc, &types)? {
+    let models = TreeIndex::of(alloc, &types)?;
+    if let Some(breach) = broken_pair(alloc, &models)? {
         return Ok(Some(breach));
     }
-    if let Some(breach) = broken_reference(alloc, &types)? {
+    if let Some(breach) = broken_reference(alloc, &models)? {
         return Ok(Some(breach));
     }
-    broken_store(alloc, &types)
+    broken_store(alloc, &models)
 }
