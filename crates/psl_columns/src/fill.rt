@@ -21,12 +21,7 @@ use std::alloc::Global;
 
 /// The number of a member of an enum, from 0, and 0 where there is none. `Memory` where 16 bits don't
 /// hold it.
-fn member_number(
-    alloc: Global,
-    enums: &Enums,
-    enumeration: &str,
-    name: &str,
-) -> Result<u16, Memory>
+fn member_number(alloc: Global, enums: &Enums, enumeration: &str, name: &str) -> Result<u16, Memory>
     ensures { IfOk result (λ number. number ≡ spec.member_number enums.now enumeration.now name.now) }
 {
     match enums.named(enumeration) {

@@ -11,10 +11,10 @@ ghost use Rattle.psl_rules.specs.Foreign as spec;
 
 use crate::model_index::ModelIndex;
 use crate::passed::is_behind;
-use crate::tree_index::TreeIndex;
 use crate::relations::{End, Pair, ends, pairs, partners};
 use crate::sides::Sides;
 use crate::targets::Targets;
+use crate::tree_index::TreeIndex;
 use psl_parts::{
     Columns, Field, Types, are_optional, are_required, earlier, given, have_same_types, is_among,
     is_value_type, name_in, noted, stand_once,

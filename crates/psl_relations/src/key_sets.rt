@@ -145,7 +145,9 @@ fn add_keys_in<'a>(
         Entry::Setting { .. } => Ok(()),
         Entry::Member { .. } => Ok(()),
         Entry::Field {
-            name, attributes, ..
+            name,
+            attributes,
+            ..
         } => {
             add_field_keys(sets, alloc, name, attributes.as_slice())?;
             Ok(())

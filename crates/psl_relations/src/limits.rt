@@ -5,8 +5,8 @@ ghost use Rattle.psl_rules.specs.Parts.{first, models, enums};
 ghost use Rattle.psl_rules.specs.Names.{field_names, member_names};
 ghost use Rattle.psl_rules.specs.Stored as spec;
 
-use crate::tree_index::TreeIndex;
 use crate::stored::{references, stored_tables};
+use crate::tree_index::TreeIndex;
 use psl_parts::{blocks_of, earlier, field_names, member_names};
 use psl_text::{Block, Name, Tree, Word};
 use qe_text::Memory;

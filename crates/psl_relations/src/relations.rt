@@ -6,8 +6,8 @@ ghost use Rattle.psl_rules.specs.Names.{is_optional};
 ghost use Rattle.psl_rules.specs.Relations as spec;
 
 use crate::model_index::ModelIndex;
-use crate::tree_index::TreeIndex;
 use crate::sides::Sides;
+use crate::tree_index::TreeIndex;
 use psl_parts::{Field, Types, given, given_names, given_text, noted};
 use psl_text::{Attribute, Block, Entry};
 use qe_text::Memory;

@@ -10,8 +10,8 @@ ghost use Rattle.psl_rules.specs.Names.{scalar_names, names_enum};
 ghost use Rattle.psl_rules.specs.Relations.{is_linked, relation_name};
 ghost use Rattle.psl_rules.specs.Stored as spec;
 
-use crate::tree_index::TreeIndex;
 use crate::relations::{Pair, ends, pairs};
+use crate::tree_index::TreeIndex;
 use psl_parts::{Types, blocks_of, earlier, first_repeat, given_text, is_called, is_scalar, noted};
 use psl_text::{Attribute, Block, Entry, Name, Word};
 use qe_text::{Memory, Text};

@@ -1,4 +1,4 @@
-//! TreeIndex, to look up those that an end leads to.
+//! Models, to look up those that an end leads to.
 ghost use Rattle.std.specs.Prelude.{◌≡◌, IfOk, map, filter};
 ghost use Rattle.std.specs.Borrow.{Bor};
 ghost use Rattle.psl_rules.specs.Parts.{Spelling, models};
@@ -7,8 +7,8 @@ ghost use Rattle.psl_relations.specs.Back.{same_text};
 ghost use Rattle.psl_relations.specs.Called.{is_called};
 
 use crate::model_index::ModelIndex;
-use crate::tree_index::TreeIndex;
 use crate::relations::End;
+use crate::tree_index::TreeIndex;
 use psl_parts::grouped;
 use qe_text::Memory;
 use std::alloc::Global;

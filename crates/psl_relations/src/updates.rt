@@ -7,11 +7,11 @@ ghost use Rattle.psl_rules.specs.Relations.{end_place, has_fields};
 ghost use Rattle.psl_rules.specs.Updates as spec;
 
 use crate::foreign::{action, holders};
-use crate::tree_index::TreeIndex;
 use crate::passed::is_behind;
 use crate::ranks::Ranked;
 use crate::referred::Referred;
 use crate::relations::{End, ends};
+use crate::tree_index::TreeIndex;
 use crate::walks::{Step, reached_from};
 use psl_parts::noted;
 use qe_text::Memory;
@@ -85,11 +85,7 @@ fn steps<'a>(alloc: Global, arrows: &[&End<'a>]) -> Result<Vec<Step<'a>>, Memory
 }
 
 /// Whether the steps lead back from the end of a step to its beginning.
-fn is_on_cycle<'a>(
-    alloc: Global,
-    ranked: &Ranked<'_, 'a>,
-    step: &Step<'a>,
-) -> Result<bool, Memory>
+fn is_on_cycle<'a>(alloc: Global, ranked: &Ranked<'_, 'a>, step: &Step<'a>) -> Result<bool, Memory>
     ensures { IfOk result (λ is. is ≡ spec.leads ranked.now step.now.to step.now.from) }
 {
     if ranked.leads_up(step) {

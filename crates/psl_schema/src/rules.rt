@@ -4,9 +4,8 @@ ghost use Rattle.psl_rules.specs.Accepted as spec;
 
 use crate::breach::Breach;
 use crate::fields::{broken_attribute, broken_block, broken_key, broken_type};
-use crate::relations::{broken_pair, broken_reference, broken_store};
+use crate::relations::broken_relation;
 use psl_parts::Types;
-use psl_relations::TreeIndex;
 use psl_text::Tree;
 use qe_text::Memory;
 use std::alloc::Global;
@@ -29,12 +28,5 @@ pub fn first_breach(alloc: Global, tree: &Tree) -> Result<Option<Breach>, Memory
     if let Some(breach) = broken_key(alloc, tree)? {
         return Ok(Some(breach));
     }
-    let models = TreeIndex::of(alloc, &types)?;
-    if let Some(breach) = broken_pair(alloc, &models)? {
-        return Ok(Some(breach));
-    }
-    if let Some(breach) = broken_reference(alloc, &models)? {
-        return Ok(Some(breach));
-    }
-    broken_store(alloc, &models)
+    broken_relation(alloc, &types)
 }

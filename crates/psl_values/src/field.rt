@@ -122,31 +122,30 @@ impl<'s, 'a> Numbered<'s, 'a> {
     pub fn fields(
         &self,
         alloc: Global,
-        index: &'a ModelIndex<'a>,
+        model: &'a ModelIndex<'a>,
     ) -> Result<Items<(Text, Field)>, Memory>
-        ensures { IfOk result (λ fields. fields ≡ spec.fields_of self.now index.now) }
+        ensures { IfOk result (λ fields. fields ≡ spec.fields_of self.now model.now) }
     {
-        let model = index.model();
-        let columns = column_names(alloc, self.types(), model)?;
+        let block = model.model();
+        let columns = column_names(alloc, self.types(), block)?;
         let mut fields = Items::new(alloc);
-        for entry in model.entries.as_slice() {
-            let Entry::Field {
+        for entry in block.entries.as_slice() {
+            if let Entry::Field {
                 name,
                 kind,
                 mark,
                 attributes,
                 ..
             } = entry
-            else {
-                continue;
-            };
-            let field = ModelField {
-                name,
-                kind,
-                mark: *mark,
-                attributes: attributes.as_slice(),
-            };
-            fields.push(self.shown_field(alloc, columns.as_slice(), index, field)?)?;
+            {
+                let field = ModelField {
+                    name,
+                    kind,
+                    mark: *mark,
+                    attributes: attributes.as_slice(),
+                };
+                fields.push(self.shown_field(alloc, columns.as_slice(), model, field)?)?;
+            }
         }
         Ok(fields)
     }

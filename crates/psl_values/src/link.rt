@@ -107,11 +107,11 @@ fn links_between(alloc: Global, models: &Models, linked: &[&Pair]) -> Result<Ite
 }
 
 /// The links of a tree, in the order of their first fields.
-pub fn links<'a>(alloc: Global, types: &'a Types<'a>) -> Result<Items<Link>, Memory>
+pub fn links(alloc: Global, types: &Types) -> Result<Items<Link>, Memory>
     ensures { IfOk result (λ links. links ≡ spec.links_of types.now) }
 {
     let models = Models::of(alloc, types)?;
-    let tree = TreeIndex::of(alloc, types)?;
+    let tree = TreeIndex::of(alloc, &*types)?;
     let ends = ends(alloc, &tree)?;
     let pairs = pairs(alloc, ends.as_slice())?;
     let linked = linked(alloc, pairs.as_slice())?;

@@ -108,11 +108,11 @@ fn relations_held<'e, 'a>(
 }
 
 /// The relations of a tree, in the order of the fields that hold them.
-pub fn relations<'a>(alloc: Global, types: &'a Types<'a>) -> Result<Items<Relation>, Memory>
+pub fn relations(alloc: Global, types: &Types) -> Result<Items<Relation>, Memory>
     ensures { IfOk result (λ relations. relations ≡ spec.relations_of types.now) }
 {
     let models = Models::of(alloc, types)?;
-    let tree = TreeIndex::of(alloc, types)?;
+    let tree = TreeIndex::of(alloc, &*types)?;
     let ends = ends(alloc, &tree)?;
     let held = holders(alloc, ends.as_slice())?;
     let sides = Sides::of(alloc, ends.as_slice())?;

@@ -63,11 +63,11 @@ fn push_links(
 }
 
 /// The tables of a tree: its models, then the link tables in the order of their first fields.
-pub fn tables<'a>(alloc: Global, types: &'a Types<'a>) -> Result<Items<Table>, Memory>
+pub fn tables(alloc: Global, types: &Types) -> Result<Items<Table>, Memory>
     ensures { IfOk result (λ tables. tables ≡ spec.tables_of types.now) }
 {
-    let models = Models::of(alloc, types)?;
-    let tree = TreeIndex::of(alloc, types)?;
+    let tree = TreeIndex::of(alloc, &*types)?;
+    let models = Models::of(alloc, tree.types())?;
     let ends = ends(alloc, &tree)?;
     let pairs = pairs(alloc, ends.as_slice())?;
     let linked = linked(alloc, pairs.as_slice())?;
