@@ -3,7 +3,7 @@ use Rattle.std.specs.Prelude.{IfOk}
 use Rattle.psl_text.specs.declared.tree.Tree.{Tree}
 use Rattle.psl_rules.specs.Parts.{first, failing, models}
 use Rattle.psl_rules.specs.Relations.{End, end_place, has_fields}
-use Rattle.psl_rules.specs.Foreign.{names_columns, holders}
+use Rattle.psl_rules.specs.Foreign.{names_columns}
 use Rattle.psl_parts.proofs.Held.{found_among}
 use Rattle.psl_relations.proofs.foreign.references_are_columns.Goals as goal
 

@@ -1,4 +1,3 @@
-use Rattle.std.proofs.Common.{get_or}
 use Rattle.psl_relations.proofs.Added.{turn_name}
 use Rattle.psl_relations.proofs.key_sets.gathered.Goals as goal
 

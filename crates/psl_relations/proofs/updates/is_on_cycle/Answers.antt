@@ -1,4 +1,4 @@
-use Rattle.std.proofs.Common.{◌≡◌, ap, ◌∙◌, List, ℕ}
+use Rattle.std.proofs.Common.{ap, ◌∙◌, List, ℕ}
 use Rattle.psl_rules.specs.Updates.{Step, leads}
 use Rattle.psl_relations.proofs.updates.is_on_cycle.Goals as goal
 

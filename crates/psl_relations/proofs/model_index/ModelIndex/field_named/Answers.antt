@@ -1,8 +1,7 @@
-use Rattle.std.proofs.Common.{rules, ◌≡◌, ap, sym, ◌∙◌, map, List, ℕ}
+use Rattle.std.proofs.Common.{rules, ◌≡◌, ap, sym, ◌∙◌, List}
 use Rattle.std.specs.Prelude.{option_copied, slice_get}
-use Rattle.std.specs.List.{find}
 use Rattle.psl_text.specs.declared.tree.Block.{Block}
-use Rattle.psl_rules.specs.Parts.{ModelField, fields}
+use Rattle.psl_rules.specs.Parts.{ModelField}
 use Rattle.psl_rules.specs.Foreign.{field_named}
 use Rattle.psl_parts.proofs.Looked.{got_at}
 use Rattle.psl_relations.proofs.Looked.{found_field, no_field}
