@@ -1,11 +1,14 @@
 -- Places in lists, and what has numbers by them.
 use Rattle.std.proofs.Common.{◌≡◌, ℕ, suc, ◌+◌, ◌<◌, cond, not, List, [], ◌∷◌, ◌++◌, map, length, drop, get_or, Option, Some, None, Result, refl, sym, ap, ◌∙◌, subst, Bor}
 use Rattle.std.proofs.lemmas.List.{drop_more, map-append, append_assoc}
-use Rattle.std.specs.Prelude.{position, bytes_eq, nat_lt, unwrap_or, IfOk}
-use Rattle.std.specs.List.{position_or_len}
+use Rattle.std.specs.Prelude.{position, bytes_eq, nat_lt, unwrap_or, IfOk, slice_get, option_copied, option_map}
+use Rattle.std.proofs.lemmas.Option.{slice_get-map}
+use Rattle.std.specs.List.{position_or_len, find}
+use Rattle.psl_text.specs.declared.tree.Block.{Block}
+use Rattle.psl_parts.proofs.Looked.{position_mapped, found_at, found_nowhere}
 use Rattle.psl_rules.specs.declared.key.Key as ruled
 use Rattle.qe_base.specs.declared.schema.Key.{Key}
-use Rattle.psl_sound.specs.SchemaOf.{number_among}
+use Rattle.psl_sound.specs.SchemaOf.{number_among, block_name}
 use Rattle.psl_columns.specs.Numbered.{numbered}
 
 place_map : (names : List (Bor (List ℕ))) (name : List ℕ) → position_or_len (bytes_eq name) (map (λ other. other.now) names) ≡ position_or_len (λ other. bytes_eq name other.now) names
@@ -47,3 +50,18 @@ pub keys_joined : (names columns : List (List ℕ)) (none ids_made made : List K
 keys_joined names columns none ids_made made ids uniques same empty first second =
     second ∙ ap (λ keys. keys ++ map (numbered columns) uniques) (first ∙ ap (λ keys. keys ++ map (numbered columns) ids) empty)
     ∙ sym (map-append (numbered columns) ids uniques) ∙ ap (λ columns. map (numbered columns) (ids ++ uniques)) same
+
+-- ---- a block, by its name
+
+copied_now : (found : Option (Bor Block)) → option_copied found ≡ option_map (λ block. block.now) found
+copied_now None = refl
+copied_now (Some block) = refl
+
+pub block_at : (blocks : List (Bor Block)) (all : List Block) (name : List ℕ) (at : ℕ) (result : Option (Bor Block)) → result ≡ slice_get blocks at → map (λ block. block.now) blocks ≡ all → position (bytes_eq name) (map block_name all) ≡ Some at
+    → option_copied result ≡ find (λ block. bytes_eq name block.name.text) all
+block_at blocks all name at result got same place =
+    ap option_copied got ∙ copied_now (slice_get blocks at) ∙ sym (slice_get-map (λ (block : Bor Block). block.now) blocks at) ∙ ap (λ (found : List Block). slice_get found at) same
+    ∙ found_at (λ (block : Block). bytes_eq name block.name.text) all at (sym (position_mapped block_name (bytes_eq name) all) ∙ place)
+
+pub no_block : (all : List Block) (name : List ℕ) → position (bytes_eq name) (map block_name all) ≡ None → None ≡ find (λ block. bytes_eq name block.name.text) all
+no_block all name place = found_nowhere (λ (block : Block). bytes_eq name block.name.text) all (sym (position_mapped block_name (bytes_eq name) all) ∙ place)

@@ -4,9 +4,10 @@ ghost use Rattle.psl_rules.specs.Parts.{given_text};
 ghost use Rattle.psl_rules.specs.Stored.{mapped};
 ghost use Rattle.psl_sound.specs.SchemaOf as spec;
 
+use crate::enums::Enums;
 use crate::fill::fill;
-use crate::names::{enum_names, is_column, number_among};
-use psl_parts::{Field, Types, given_text, has_attribute, is_called};
+use crate::names::is_column;
+use psl_parts::{Field, given_text, has_attribute, is_called};
 use psl_text::{Attribute, Block, Entry};
 use qe_base::{Column, EnumId, Kind};
 use qe_text::{Items, Memory, Text};
@@ -14,8 +15,8 @@ use std::alloc::Global;
 
 /// What kind of values a field of this type has. A tree of more than 65,536 enums has no numbers for
 /// those beyond; for them the answer is `Memory`.
-pub fn kind(alloc: Global, types: &Types, type_name: &str) -> Result<Kind, Memory>
-    ensures { IfOk result (λ kind. kind ≡ spec.kind_of types.now type_name.now) }
+pub fn kind(enums: &Enums, type_name: &str) -> Result<Kind, Memory>
+    ensures { IfOk result (λ kind. kind ≡ spec.kind_of enums.now type_name.now) }
 {
     if type_name == "String" {
         Ok(Kind::Text)
@@ -30,30 +31,28 @@ pub fn kind(alloc: Global, types: &Types, type_name: &str) -> Result<Kind, Memor
     } else if type_name == "Bytes" {
         Ok(Kind::Blob)
     } else {
-        let names = enum_names(alloc, types.tree())?;
-        let number = number_among(names.as_slice(), type_name)?;
-        Ok(Kind::Member(EnumId(number)))
+        Ok(Kind::Member(EnumId(enums.number(type_name)?)))
     }
 }
 
-fn column(alloc: Global, types: &Types, field: &Field) -> Result<Column, Memory>
-    ensures { IfOk result (λ column. column ≡ spec.column_of types.now field.now) }
+fn column(alloc: Global, enums: &Enums, field: &Field) -> Result<Column, Memory>
+    ensures { IfOk result (λ column. column ≡ spec.column_of enums.now field.now) }
 {
     let name = &field.name().text;
     let type_name = field.kind().text.as_str();
     Ok(Column {
         name: name.copy(alloc)?,
         stored: Text::from_str(alloc, mapped_field(name, field.attributes))?,
-        kind: kind(alloc, types, type_name)?,
+        kind: kind(enums, type_name)?,
         optional: field.is_optional(),
-        fill: fill(alloc, types.tree(), type_name, field.attributes)?,
+        fill: fill(alloc, enums, type_name, field.attributes)?,
         updated: has_attribute(field.attributes, "updatedAt"),
     })
 }
 
 /// The columns of a model, in text order.
-pub fn columns(alloc: Global, types: &Types, model: &Block) -> Result<Items<Column>, Memory>
-    ensures { IfOk result (λ columns. columns ≡ spec.columns_of types.now model.now) }
+pub fn columns(alloc: Global, enums: &Enums, model: &Block) -> Result<Items<Column>, Memory>
+    ensures { IfOk result (λ columns. columns ≡ spec.columns_of enums.now model.now) }
 {
     let mut columns = Items::new(alloc);
     for entry in model.entries.as_slice() {
@@ -65,14 +64,14 @@ pub fn columns(alloc: Global, types: &Types, model: &Block) -> Result<Items<Colu
             ..
         } = entry
         {
-            if is_column(types, kind) {
+            if is_column(enums.types(), kind) {
                 let field = Field {
                     name,
                     kind,
                     mark: *mark,
                     attributes: attributes.as_slice(),
                 };
-                columns.push(column(alloc, types, &field)?)?;
+                columns.push(column(alloc, enums, &field)?)?;
             }
         }
     }

@@ -1,7 +1,6 @@
 //! What a column has where no value is given.
 ghost use Rattle.std.specs.Prelude.{◌≡◌, IfOk, option_map, option_and_then, option_copied, bytes_eq, codes, unwrap_or};
-ghost use Rattle.std.specs.List.{find};
-ghost use Rattle.psl_rules.specs.Parts.{enums, text_in, name_in, attribute_named};
+ghost use Rattle.psl_rules.specs.Parts.{text_in, name_in, attribute_named};
 ghost use Rattle.psl_rules.specs.Defaults.{default_in, number_in};
 ghost use Rattle.qe_scalars.specs.Numbers.{is_small, is_big, number_within};
 ghost use Rattle.qe_scalars.specs.Moments.{moment_of};
@@ -10,34 +9,22 @@ ghost use Rattle.qe_base.specs.declared.value.Value.TheVariants as value;
 ghost use Rattle.qe_base.specs.declared.schema.Fill.TheVariants as fill;
 ghost use Rattle.psl_sound.specs.SchemaOf as spec;
 
+use crate::enums::Enums;
 use crate::names::{member_names, number_among};
 use psl_keys::number_in;
 use psl_parts::{given, is_called, name_in, text_in};
-use psl_text::{Attribute, Block, Term, Tree, Word};
+use psl_text::{Attribute, Term};
 use qe_base::{Fill, Value};
 use qe_scalars::{big_in, bytes_in, moment_in, small_in};
 use qe_text::{Memory, Text};
 use std::alloc::Global;
 
-/// The enum of this name.
-#[tactic(auto, unfolding(psl_rules::specs::Parts::same_word))]
-fn enum_named<'a>(tree: &'a Tree, name: &str) -> Option<&'a Block>
-    ensures { option_copied result ≡ find (λ block. bytes_eq name.now block.name.text) (enums tree.now) }
-{
-    for block in tree.blocks.as_slice() {
-        if block.word == Word::Enum && name == block.name.text.as_str() {
-            return Some(block);
-        }
-    }
-    None
-}
-
 /// The number of a member of an enum, from 0, and 0 where there is none. `Memory` where 16 bits don't
 /// hold it.
-fn member_number(alloc: Global, tree: &Tree, enumeration: &str, name: &str) -> Result<u16, Memory>
-    ensures { IfOk result (λ number. number ≡ spec.member_number tree.now enumeration.now name.now) }
+fn member_number(alloc: Global, enums: &Enums, enumeration: &str, name: &str) -> Result<u16, Memory>
+    ensures { IfOk result (λ number. number ≡ spec.member_number enums.now enumeration.now name.now) }
 {
-    match enum_named(tree, enumeration) {
+    match enums.named(enumeration) {
         Some(block) => number_among(member_names(alloc, block)?.as_slice(), name),
         None => Ok(0),
     }
@@ -121,15 +108,15 @@ fn bytes_fill(alloc: Global, default: &Term) -> Result<Fill, Memory>
 
 fn member_fill(
     alloc: Global,
-    tree: &Tree,
+    enums: &Enums,
     enumeration: &str,
     default: &Term,
 ) -> Result<Fill, Memory>
-    ensures { IfOk result (λ filled. filled ≡ spec.literal_or fill.Absent (option_map (λ name. value.Member (spec.member_number tree.now enumeration.now name)) (name_in default.now))) }
+    ensures { IfOk result (λ filled. filled ≡ spec.literal_or fill.Absent (option_map (λ name. value.Member (spec.member_number enums.now enumeration.now name)) (name_in default.now))) }
 {
     match name_in(default) {
         Some(name) => {
-            let number = member_number(alloc, tree, enumeration, name)?;
+            let number = member_number(alloc, enums, enumeration, name)?;
             Ok(Fill::Literal(Value::Member(number)))
         }
         None => Ok(Fill::Absent),
@@ -137,8 +124,8 @@ fn member_fill(
 }
 
 /// What a default of a field of this type fills in.
-fn fill_in(alloc: Global, tree: &Tree, kind: &str, default: &Term) -> Result<Fill, Memory>
-    ensures { IfOk result (λ filled. filled ≡ spec.fill_in tree.now kind.now default.now) }
+fn fill_in(alloc: Global, enums: &Enums, kind: &str, default: &Term) -> Result<Fill, Memory>
+    ensures { IfOk result (λ filled. filled ≡ spec.fill_in enums.now kind.now default.now) }
 {
     if kind == "String" {
         text_fill(alloc, default)
@@ -153,7 +140,7 @@ fn fill_in(alloc: Global, tree: &Tree, kind: &str, default: &Term) -> Result<Fil
     } else if kind == "Bytes" {
         bytes_fill(alloc, default)
     } else {
-        member_fill(alloc, tree, kind, default)
+        member_fill(alloc, enums, kind, default)
     }
 }
 
@@ -173,14 +160,14 @@ fn default_in(attributes: &[Attribute]) -> Option<&Term>
 /// none.
 pub fn fill(
     alloc: Global,
-    tree: &Tree,
+    enums: &Enums,
     kind: &str,
     attributes: &[Attribute],
 ) -> Result<Fill, Memory>
-    ensures { IfOk result (λ filled. filled ≡ unwrap_or (option_map (spec.fill_in tree.now kind.now) (option_and_then default_in (attribute_named (codes "default") attributes.now))) fill.Absent) }
+    ensures { IfOk result (λ filled. filled ≡ unwrap_or (option_map (spec.fill_in enums.now kind.now) (option_and_then default_in (attribute_named (codes "default") attributes.now))) fill.Absent) }
 {
     match default_in(attributes) {
-        Some(default) => fill_in(alloc, tree, kind, default),
+        Some(default) => fill_in(alloc, enums, kind, default),
         None => Ok(Fill::Absent),
     }
 }

@@ -3,11 +3,13 @@
 
 mod choice;
 mod column;
+mod enums;
 mod fill;
 mod key;
 mod names;
 
 pub use choice::choices;
 pub use column::{columns, kind};
+pub use enums::Enums;
 pub use key::{column_numbers, indexes, keys};
 pub use names::{as_number, column_names, is_column, number_among};

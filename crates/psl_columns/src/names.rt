@@ -1,11 +1,11 @@
 //! Names, and their numbers in a list.
 ghost use Rattle.std.specs.Prelude.{◌≡◌, IfOk, map, position, bytes_eq};
-ghost use Rattle.psl_rules.specs.Parts.{members, enums};
+ghost use Rattle.psl_rules.specs.Parts.{members};
 ghost use Rattle.psl_rules.specs.Names.{is_value_type};
 ghost use Rattle.psl_sound.specs.SchemaOf as spec;
 
-use psl_parts::{Types, blocks_of, is_scalar};
-use psl_text::{Block, Entry, Name, Tree, Word};
+use psl_parts::{Types, is_scalar};
+use psl_text::{Block, Entry, Name};
 use qe_text::Memory;
 use std::alloc::Global;
 
@@ -37,17 +37,6 @@ pub fn as_number(at: usize) -> Result<u16, Memory>
     } else {
         Err(Memory)
     }
-}
-
-/// The names of the enums, in text order.
-pub fn enum_names(alloc: Global, tree: &Tree) -> Result<Vec<&str>, Memory>
-    ensures { IfOk result (λ names. map (λ name. name.now) names.items ≡ map spec.block_name (enums tree.now)) }
-{
-    let mut names = Vec::new(alloc);
-    for block in blocks_of(alloc, tree, Word::Enum)?.as_slice() {
-        names.push(block.name.text.as_str())?;
-    }
-    Ok(names)
 }
 
 /// The names of an enum's members, in text order.

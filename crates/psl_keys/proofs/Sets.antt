@@ -38,7 +38,7 @@ and_both : (a b : Bool) → a ≡ true → b ≡ true → (a && b) ≡ true
 and_both true b h k = k
 and_both false b h k = h
 
-and_turned : (a b : Bool) → (a && b) ≡ (b && a)
+pub and_turned : (a b : Bool) → (a && b) ≡ (b && a)
 and_turned true true = refl
 and_turned true false = refl
 and_turned false true = refl
@@ -124,7 +124,7 @@ same_now (key ∷ one) [] = refl
 same_now (key ∷ one) (text ∷ other) = ap (λ b. same_text key text && b) (same_now one other)
 
 -- sets of the same names are equal
-alike : (one other : BTreeSet (Bor Spelling)) (a b : List Spelling) → Gathers one a → Gathers other b → same_set one other ≡ are_same_set a b
+pub alike : (one other : BTreeSet (Bor Spelling)) (a b : List Spelling) → Gathers one a → Gathers other b → same_set one other ≡ are_same_set a b
 alike one other a b h k =
     let decided = pointwise_decides (λ x y. bytes_eq-Decides x y) (now_of one.keys) (now_of other.keys) in
     both (same_set one other) (are_same_set a b)

@@ -2,6 +2,7 @@ pub mod Distinct
 pub mod Entries
 pub mod Firsts
 pub mod Held
+pub mod Looked
 pub mod Lookups
 pub mod Models
 pub mod Named

@@ -22,5 +22,5 @@ pub use first::{earlier, noted};
 pub use groups::{first_places, grouped};
 pub use names::{NameSet, field_names, member_names};
 pub use parts::blocks_of;
-pub use repeats::first_repeat;
+pub use repeats::{first_repeat, stand_once};
 pub use types::Types;

@@ -50,6 +50,9 @@ turn ends i end sided new one side whole within is now_is same new_is before =
     ap (λ all. kept side all ++ rest) new_is ∙ ap (λ all. all ++ rest) (kept_more side sided one (is_on side end) same) ∙ put (kept side sided) rest one.1.now end (is_on side end) now_is
     ∙ ap (λ all. kept side sided ++ filter (is_on side) all) (sym (left_at ends i end within is)) ∙ before
 
+pub turned_all : (ends : List End) (i : ℕ) (sided : List (Side × Bor End)) (side : Side) (whole : List End) → length ends ≤ i → kept side sided ++ filter (is_on side) (drop i ends) ≡ whole → kept side sided ≡ whole
+turned_all ends i sided side whole past before = sym (append-nil (kept side sided)) ∙ ap (λ left. kept side sided ++ filter (is_on side) left) (sym (drop_all i ends past)) ∙ before
+
 -- ---- in groups
 
 values : (xs : List (Side × Bor End)) → map (λ end. end.now) (map (λ one. one.1) xs) ≡ map (λ one. one.1.now) xs

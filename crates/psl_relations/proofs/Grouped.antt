@@ -37,14 +37,13 @@ put : (before rest : List Block) (one model : Block) (b : Bool) → one ≡ mode
 put before rest one model true is = append_assoc before (one ∷ []) rest ∙ ap (λ model. before ++ model ∷ rest) is
 put before rest one model false is = ap (λ all. all ++ rest) (append-nil before)
 
-pub turn_model : (models : List (Bor Block)) (i : ℕ) (model : Bor Block) (named new : List Named) (one : Named) (name : Bor Spelling) (whole : List Block) → i < length models → model ≡ get_or models i model → one.1.now ≡ model.now
-    → one.0.now ≡ model.now.name.text → new ≡ named ++ one ∷ [] → kept name named ++ filter (is_called name.now) (now_of (drop i models)) ≡ whole
-    → kept name new ++ filter (is_called name.now) (now_of (drop (i + 1) models)) ≡ whole
+pub turn_model : (models : List Block) (i : ℕ) (model : Block) (named new : List Named) (one : Named) (name : Bor Spelling) (whole : List Block) → i < length models → model ≡ get_or models i model → one.1.now ≡ model
+    → one.0.now ≡ model.name.text → new ≡ named ++ one ∷ [] → kept name named ++ filter (is_called name.now) (drop i models) ≡ whole → kept name new ++ filter (is_called name.now) (drop (i + 1) models) ≡ whole
 turn_model models i model named new one name whole within is now_is name_is new_is before =
-    let rest = filter (is_called name.now) (now_of (drop (i + 1) models)) in
-    ap (λ all. kept name all ++ rest) new_is ∙ ap (λ all. all ++ rest) (kept_more name named one (is_called name.now model.now) (ap (λ text. bytes_eq text name.now) name_is))
-    ∙ put (kept name named) rest one.1.now model.now (is_called name.now model.now) now_is
-    ∙ ap (λ (all : List (Bor Block)). kept name named ++ filter (is_called name.now) (now_of all)) (sym (left_at models i model within is)) ∙ before
+    let rest = filter (is_called name.now) (drop (i + 1) models) in
+    ap (λ all. kept name all ++ rest) new_is ∙ ap (λ all. all ++ rest) (kept_more name named one (is_called name.now model) (ap (λ text. bytes_eq text name.now) name_is))
+    ∙ put (kept name named) rest one.1.now model (is_called name.now model) now_is
+    ∙ ap (λ (all : List Block). kept name named ++ filter (is_called name.now) all) (sym (left_at models i model within is)) ∙ before
 
 values : (xs : List Named) → now_of (map (λ one. one.1) xs) ≡ map (λ one. one.1.now) xs
 values [] = refl

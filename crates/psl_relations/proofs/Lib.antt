@@ -1,8 +1,13 @@
+pub mod Added
+pub mod Behind
 pub mod Beyond
+pub mod Columns
 pub mod Exchanged
 pub mod Gathered
 pub mod Grouped
+pub mod Looked
 pub mod Lowered
 pub mod Numbered
+pub mod Ranked
 pub mod Stepped
 pub mod Walked

@@ -1,6 +1,6 @@
 -- A walk along steps, model by model, in the order in which it reached them.
 use Rattle.std.proofs.Common.{◌≡◌, ◌⊎◌, inl, inr, ℕ, ◌+◌, ◌<◌, ◌≤◌, Bool, true, false, cond, not, ◌&&◌, ◌||◌, List, [], ◌∷◌, ◌++◌, map, filter, length, take, drop, get_or, Option, Some, refl, sym, ap, subst, ◌∙◌, true≢false, arith, Bor}
-use Rattle.std.proofs.lemmas.List.{drop_more, take-append-le, take_all, append-nil, append_assoc}
+use Rattle.std.proofs.lemmas.List.{take-append-le, take_all, append-nil, append_assoc}
 use Rattle.std.proofs.lemmas.List.Folds.{list_any_more, list_any_at}
 use Rattle.std.proofs.lemmas.Option.{get_or_from_slice_get}
 use Rattle.std.proofs.lemmas.Slice.Eq.{bytes_eq-Decides}

@@ -6,7 +6,8 @@ ghost use Rattle.psl_rules.specs.Names.{field_names, member_names};
 ghost use Rattle.psl_rules.specs.Stored as spec;
 
 use crate::stored::{references, stored_tables};
-use psl_parts::{Types, blocks_of, earlier, field_names, member_names};
+use crate::tree_index::TreeIndex;
+use psl_parts::{blocks_of, earlier, field_names, member_names};
 use psl_text::{Block, Name, Tree, Word};
 use qe_text::Memory;
 use std::alloc::Global;
@@ -68,10 +69,10 @@ fn first_member_beyond(alloc: Global, tree: &Tree) -> Result<Option<usize>, Memo
 }
 
 /// The first of the tables beyond 256.
-fn table_beyond(alloc: Global, types: &Types) -> Result<Option<usize>, Memory>
-    ensures { IfOk result (λ found. found ≡ first (spec.beyond 256 (spec.stored_tables types.now))) }
+fn table_beyond<'a>(alloc: Global, models: &'a TreeIndex<'a>) -> Result<Option<usize>, Memory>
+    ensures { IfOk result (λ found. found ≡ first (spec.beyond 256 (spec.stored_tables models.now))) }
 {
-    let tables = stored_tables(alloc, types)?;
+    let tables = stored_tables(alloc, models)?;
     let names = references(alloc, tables.as_slice())?;
     Ok(first_beyond(MOST_TABLES, names.as_slice()))
 }
@@ -79,11 +80,11 @@ fn table_beyond(alloc: Global, types: &Types) -> Result<Option<usize>, Memory>
 /// Rule V26: there are at most 256 tables, 128 fields in a model, and 1,000 members in an enum. Broken at
 /// the first name beyond: of the tables in their order, of a model's fields, and of an enum's members.
 #[tactic(auto, using(psl_parts::proofs::Firsts::first_append))]
-pub fn limits_hold(alloc: Global, types: &Types) -> Result<Option<usize>, Memory>
-    ensures { IfOk result (λ found. found ≡ first (spec.limits_hold types.now)) }
+pub fn limits_hold<'a>(alloc: Global, models: &'a TreeIndex<'a>) -> Result<Option<usize>, Memory>
+    ensures { IfOk result (λ found. found ≡ first (spec.limits_hold models.now)) }
 {
-    let table = table_beyond(alloc, types)?;
-    let field = first_field_beyond(alloc, types.tree())?;
-    let member = first_member_beyond(alloc, types.tree())?;
+    let table = table_beyond(alloc, models)?;
+    let field = first_field_beyond(alloc, models.types().tree())?;
+    let member = first_member_beyond(alloc, models.types().tree())?;
     Ok(earlier(table, earlier(field, member)))
 }

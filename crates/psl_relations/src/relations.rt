@@ -5,9 +5,11 @@ ghost use Rattle.psl_rules.specs.Parts.{first, failing};
 ghost use Rattle.psl_rules.specs.Names.{is_optional};
 ghost use Rattle.psl_rules.specs.Relations as spec;
 
+use crate::model_index::ModelIndex;
 use crate::sides::Sides;
-use psl_parts::{Field, Types, blocks_of, given, given_names, given_text, noted};
-use psl_text::{Attribute, Block, Entry, Word};
+use crate::tree_index::TreeIndex;
+use psl_parts::{Field, Types, given, given_names, given_text, noted};
+use psl_text::{Attribute, Block, Entry};
 use qe_text::Memory;
 use std::alloc::Global;
 use std::marker::Model;
@@ -16,7 +18,7 @@ use std::marker::Model;
 #[derive(Drop)]
 pub struct End<'a> {
     number: usize,
-    model: &'a Block,
+    model: &'a ModelIndex<'a>,
     field: Field<'a>,
 }
 
@@ -34,7 +36,7 @@ impl<'a> Model for End<'a> {
 
 impl<'a> End<'a> {
     /// A field as an end, in its model, with its number.
-    pub fn of(number: usize, model: &'a Block, field: Field<'a>) -> End<'a>
+    pub fn of(number: usize, model: &'a ModelIndex<'a>, field: Field<'a>) -> End<'a>
         ensures { result ≡ spec.end_at (number, spec.standing_in model.now field.entry) }
     {
         End {
@@ -52,6 +54,13 @@ impl<'a> End<'a> {
     }
 
     pub fn model(&self) -> &'a Block
+        ensures { result.now ≡ self.now.model }
+    {
+        self.index().model()
+    }
+
+    /// The model, with what is looked up in it.
+    pub fn index(&self) -> &'a ModelIndex<'a>
         ensures { result.now ≡ self.now.model }
     {
         self.model
@@ -242,10 +251,14 @@ impl<'e, 'a> Pair<'e, 'a> {
 }
 
 /// Appends the fields of a model that lead to models.
-fn push_ends<'a>(ends: &mut Vec<End<'a>>, types: &Types, model: &'a Block) -> Result<(), Memory>
+fn push_ends<'a>(
+    ends: &mut Vec<End<'a>>,
+    types: &Types,
+    model: &'a ModelIndex<'a>,
+) -> Result<(), Memory>
     ensures { OnOk result (ends.new.items ≡ ends.old.items ++ map spec.end_at (enumerate_from (length ends.old.items) (spec.leading_of types.now model.now))) }
 {
-    for entry in model.entries.as_slice() {
+    for entry in model.model().entries.as_slice() {
         if let Entry::Field {
             name,
             kind,
@@ -269,12 +282,12 @@ fn push_ends<'a>(ends: &mut Vec<End<'a>>, types: &Types, model: &'a Block) -> Re
 }
 
 /// The fields that lead to models, in text order and numbered from 0.
-pub fn ends<'a>(alloc: Global, types: &Types<'a>) -> Result<Vec<End<'a>>, Memory>
-    ensures { IfOk result (λ ends. ends.items ≡ spec.ends types.now) }
+pub fn ends<'a>(alloc: Global, models: &'a TreeIndex<'a>) -> Result<Vec<End<'a>>, Memory>
+    ensures { IfOk result (λ ends. ends.items ≡ spec.ends models.now) }
 {
     let mut ends = Vec::new(alloc);
-    for model in blocks_of(alloc, types.tree(), Word::Model)?.as_slice() {
-        push_ends(&mut ends, types, model)?;
+    for model in models.all() {
+        push_ends(&mut ends, models.types(), model)?;
     }
     Ok(ends)
 }
@@ -326,11 +339,14 @@ fn first_unpaired(alloc: Global, ends: &[End]) -> Result<Option<usize>, Memory>
     Ok(found)
 }
 
-/// Each field that leads to a model has exactly one partner. Broken at its name.
-pub fn ends_are_paired(alloc: Global, types: &Types) -> Result<Option<usize>, Memory>
-    ensures { IfOk result (λ found. found ≡ first (spec.ends_are_paired types.now)) }
+/// Rule V16: each field that leads to a model has exactly one partner. Broken at its name.
+pub fn ends_are_paired<'a>(
+    alloc: Global,
+    models: &'a TreeIndex<'a>,
+) -> Result<Option<usize>, Memory>
+    ensures { IfOk result (λ found. found ≡ first (spec.ends_are_paired models.now)) }
 {
-    let ends = ends(alloc, types)?;
+    let ends = ends(alloc, models)?;
     first_unpaired(alloc, ends.as_slice())
 }
 
@@ -377,13 +393,16 @@ fn first_broken_pair(pairs: &[Pair]) -> Option<usize>
     found
 }
 
-/// `fields` and `references` stand together, on one side that is no list, and the other side is a list
-/// or optional; or on neither side, and both are lists. Actions stand beside them. Broken at the name
-/// of the pair's first field.
-pub fn pairs_have_a_holder(alloc: Global, types: &Types) -> Result<Option<usize>, Memory>
-    ensures { IfOk result (λ found. found ≡ first (spec.pairs_have_a_holder types.now)) }
+/// Rule V17: `fields` and `references` stand together, on one side that is no list, and the other side is
+/// a list or optional; or on neither side, and both are lists. Actions stand beside them. Broken at the
+/// name of the pair's first field.
+pub fn pairs_have_a_holder<'a>(
+    alloc: Global,
+    models: &'a TreeIndex<'a>,
+) -> Result<Option<usize>, Memory>
+    ensures { IfOk result (λ found. found ≡ first (spec.pairs_have_a_holder models.now)) }
 {
-    let ends = ends(alloc, types)?;
+    let ends = ends(alloc, models)?;
     let pairs = pairs(alloc, ends.as_slice())?;
     Ok(first_broken_pair(pairs.as_slice()))
 }

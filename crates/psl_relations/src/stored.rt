@@ -11,6 +11,7 @@ ghost use Rattle.psl_rules.specs.Relations.{is_linked, relation_name};
 ghost use Rattle.psl_rules.specs.Stored as spec;
 
 use crate::relations::{Pair, ends, pairs};
+use crate::tree_index::TreeIndex;
 use psl_parts::{Types, blocks_of, earlier, first_repeat, given_text, is_called, is_scalar, noted};
 use psl_text::{Attribute, Block, Entry, Name, Word};
 use qe_text::{Memory, Text};
@@ -256,13 +257,13 @@ fn push_links(alloc: Global, names: &mut Vec<Name>, pairs: &[Pair]) -> Result<()
 }
 
 /// The stored names of the tables: the models, then the link tables.
-pub fn stored_tables(alloc: Global, types: &Types) -> Result<Vec<Name>, Memory>
-    ensures { IfOk result (λ names. names.items ≡ spec.stored_tables types.now) }
+pub fn stored_tables<'a>(alloc: Global, models: &'a TreeIndex<'a>) -> Result<Vec<Name>, Memory>
+    ensures { IfOk result (λ names. names.items ≡ spec.stored_tables models.now) }
 {
-    let ends = ends(alloc, types)?;
+    let ends = ends(alloc, models)?;
     let pairs = pairs(alloc, ends.as_slice())?;
     let mut names = Vec::new(alloc);
-    push_models(alloc, &mut names, types)?;
+    push_models(alloc, &mut names, models.types())?;
     push_links(alloc, &mut names, pairs.as_slice())?;
     Ok(names)
 }
@@ -286,14 +287,17 @@ fn first_wrong_column(alloc: Global, types: &Types) -> Result<Option<usize>, Mem
     Ok(found)
 }
 
-/// The stored names of tables, and those of a table's columns, can be stored and differ. Broken at the
-/// name of the later model or field, for a link table at that of its pair's first field.
+/// Rule V25: the stored names of tables, and those of a table's columns, can be stored and differ. Broken
+/// at the name of the later model or field, for a link table at that of its pair's first field.
 #[tactic(auto, using(psl_parts::proofs::Firsts::first_append))]
-pub fn stored_names_are_distinct(alloc: Global, types: &Types) -> Result<Option<usize>, Memory>
-    ensures { IfOk result (λ found. found ≡ first (spec.stored_names_are_distinct types.now)) }
+pub fn stored_names_are_distinct<'a>(
+    alloc: Global,
+    models: &'a TreeIndex<'a>,
+) -> Result<Option<usize>, Memory>
+    ensures { IfOk result (λ found. found ≡ first (spec.stored_names_are_distinct models.now)) }
 {
-    let tables = stored_tables(alloc, types)?;
+    let tables = stored_tables(alloc, models)?;
     let wrong_table = wrongly_stored(alloc, tables.as_slice())?;
-    let wrong_column = first_wrong_column(alloc, types)?;
+    let wrong_column = first_wrong_column(alloc, models.types())?;
     Ok(earlier(wrong_table, wrong_column))
 }

@@ -2,16 +2,18 @@
 ghost use Rattle.std.specs.Prelude.{◌≡◌, IfOk, filter, map, not, option_copied};
 ghost use Rattle.std.specs.List.{list_any};
 ghost use Rattle.psl_rules.specs.Parts.{first, failing};
+ghost use Rattle.psl_rules.specs.Parts as parts;
 ghost use Rattle.psl_rules.specs.Relations.{end_place, has_fields};
-ghost use Rattle.psl_rules.specs.Known.{Holds};
 ghost use Rattle.psl_rules.specs.Updates as spec;
 
-use crate::foreign::action;
+use crate::foreign::{action, holders};
+use crate::passed::is_behind;
+use crate::ranks::Ranked;
 use crate::referred::Referred;
 use crate::relations::{End, ends};
-use crate::walks::{Outgoing, Step, reached_from};
-use indexmap::IndexSet;
-use psl_parts::{Types, noted};
+use crate::tree_index::TreeIndex;
+use crate::walks::{Step, reached_from};
+use psl_parts::noted;
 use qe_text::Memory;
 use std::alloc::Global;
 
@@ -44,18 +46,31 @@ fn is_arrow<'a>(alloc: Global, end: &End<'a>, referred: &Referred<'_, 'a>) -> Re
     goes_on(alloc, end, referred)
 }
 
+/// Those of the holders whose updates cascade on.
+fn arrows_among<'e, 'a>(
+    alloc: Global,
+    referred: &Referred<'_, 'a>,
+    held: &[&'e End<'a>],
+) -> Result<Vec<&'e End<'a>>, Memory>
+    ensures { IfOk result (λ arrows. map (λ arrow. arrow.now) arrows.items ≡ filter (spec.is_arrow (filter has_fields referred.now)) (map (λ end. end.now) held.now)) }
+{
+    let mut arrows = Vec::new(alloc);
+    for end in held {
+        let is_arrow = is_arrow(alloc, end, referred)?;
+        if is_arrow {
+            arrows.push(*end)?;
+        }
+    }
+    Ok(arrows)
+}
+
 /// The relations among these ends whose updates cascade on.
 fn arrows<'e, 'a>(alloc: Global, ends: &'e [End<'a>]) -> Result<Vec<&'e End<'a>>, Memory>
     ensures { IfOk result (λ arrows. map (λ arrow. arrow.now) arrows.items ≡ filter (spec.is_arrow (filter has_fields ends.now)) (filter has_fields ends.now)) }
 {
     let referred = Referred::by(alloc, ends)?;
-    let mut arrows = Vec::new(alloc);
-    for end in ends {
-        if end.has_fields() && is_arrow(alloc, end, &referred)? {
-            arrows.push(end)?;
-        }
-    }
-    Ok(arrows)
+    let held = holders(alloc, ends)?;
+    arrows_among(alloc, &referred, held.as_slice())
 }
 
 /// The steps of the arrows.
@@ -69,63 +84,62 @@ fn steps<'a>(alloc: Global, arrows: &[&End<'a>]) -> Result<Vec<Step<'a>>, Memory
     Ok(steps)
 }
 
-/// The models that steps lead to from one.
-#[derive(Drop)]
-struct Reached<'a> {
-    from: &'a str,
-    models: IndexSet<&'a str>,
-}
-
-/// What the steps lead to from a model, where they may have been followed from it just before.
-fn reached_again<'a>(
-    alloc: Global,
-    outgoing: &Outgoing<'_, 'a>,
-    from: &'a str,
-    last: Reached<'a>,
-) -> Result<Reached<'a>, Memory>
-    requires { Holds last.models.keys (spec.leads outgoing.now last.from.now) }
-    ensures from { IfOk result (λ reached. reached.from.now ≡ from.now) }
-    ensures holds { IfOk result (λ reached. Holds reached.models.keys (spec.leads outgoing.now reached.from.now)) }
+/// Whether the steps lead back from the end of a step to its beginning.
+fn is_on_cycle<'a>(alloc: Global, ranked: &Ranked<'_, 'a>, step: &Step<'a>) -> Result<bool, Memory>
+    ensures { IfOk result (λ is. is ≡ spec.leads ranked.now step.now.to step.now.from) }
 {
-    if last.from == from {
-        return Ok(last);
+    if ranked.leads_up(step) {
+        return Ok(false);
     }
-    let models = reached_from(alloc, outgoing, from)?;
-    Ok(Reached { from, models })
+    let reached = reached_from(alloc, ranked.outgoing(), step.to())?;
+    Ok(reached.contains(step.from()))
 }
 
-/// The first arrow from whose end the steps lead back to its beginning. Arrows that end at the same model
-/// stand together, so the steps are followed once from each model.
+/// What was found, with the place of this arrow too where it lies on a cycle.
+#[tactic(auto, using(crate::proofs::Behind::passed))]
+fn noted_arrow<'a>(
+    alloc: Global,
+    ranked: &Ranked<'_, 'a>,
+    found: Option<usize>,
+    arrow: &End<'a>,
+) -> Result<Option<usize>, Memory>
+    ensures { IfOk result (λ now. now ≡ parts.noted found (spec.is_on_cycle ranked.now arrow.now) (end_place arrow.now)) }
+{
+    let at = arrow.place();
+    if is_behind(found, at) {
+        return Ok(found);
+    }
+    let is_on_cycle = is_on_cycle(alloc, ranked, &Step::of(arrow))?;
+    Ok(noted(found, is_on_cycle, at))
+}
+
+/// The first arrow from whose end the steps lead back to its beginning.
 fn first_on_cycle<'a>(
     alloc: Global,
     arrows: &[&End<'a>],
-    outgoing: &Outgoing<'_, 'a>,
+    ranked: &Ranked<'_, 'a>,
 ) -> Result<Option<usize>, Memory>
-    ensures { IfOk result (λ found. found ≡ first (failing (λ arrow. not (spec.is_on_cycle outgoing.now arrow)) end_place (map (λ arrow. arrow.now) arrows.now))) }
+    ensures { IfOk result (λ found. found ≡ first (failing (λ arrow. not (spec.is_on_cycle ranked.now arrow)) end_place (map (λ arrow. arrow.now) arrows.now))) }
 {
     let mut found = None;
-    let mut reached = Reached {
-        from: "",
-        models: reached_from(alloc, outgoing, "")?,
-    };
     for arrow in arrows {
-        let step = Step::of(arrow);
-        reached = reached_again(alloc, outgoing, step.to(), reached)?;
-        let is_on_cycle = reached.models.contains(step.from());
-        found = noted(found, is_on_cycle, arrow.place());
+        found = noted_arrow(alloc, ranked, found, arrow)?;
     }
     Ok(found)
 }
 
-/// Take the relations whose updates cascade and one of whose fields is among what a relation to their
+/// Rule V24: take the relations whose updates cascade and one of whose fields is among what a relation to their
 /// own model refers to, each as an arrow from the other model to the own one. No arrow lies on a cycle.
 /// Broken at the name of its field.
-pub fn updates_form_no_cycle(alloc: Global, types: &Types) -> Result<Option<usize>, Memory>
-    ensures { IfOk result (λ found. found ≡ first (spec.updates_form_no_cycle types.now)) }
+pub fn updates_form_no_cycle<'a>(
+    alloc: Global,
+    models: &'a TreeIndex<'a>,
+) -> Result<Option<usize>, Memory>
+    ensures { IfOk result (λ found. found ≡ first (spec.updates_form_no_cycle models.now)) }
 {
-    let ends = ends(alloc, types)?;
+    let ends = ends(alloc, models)?;
     let arrows = arrows(alloc, ends.as_slice())?;
     let steps = steps(alloc, arrows.as_slice())?;
-    let outgoing = Outgoing::of(alloc, steps.as_slice())?;
-    first_on_cycle(alloc, arrows.as_slice(), &outgoing)
+    let ranked = Ranked::of(alloc, steps.as_slice())?;
+    first_on_cycle(alloc, arrows.as_slice(), &ranked)
 }

@@ -54,6 +54,16 @@ impl<'a> Step<'a> {
     {
         self.to
     }
+
+    /// The step in the other direction.
+    pub fn turned(&self) -> Step<'a>
+        ensures { result ≡ record { from = self.now.to; to = self.now.from } }
+    {
+        Step {
+            from: self.to,
+            to: self.from,
+        }
+    }
 }
 
 /// Steps, in groups of those that lead from the same model.
@@ -113,7 +123,7 @@ impl<'s, 'a> Outgoing<'s, 'a> {
     }
 
     /// The steps that lead from a model.
-    fn after(&self, model: &'a str) -> &[&'s Step<'a>]
+    pub fn after(&self, model: &'a str) -> &[&'s Step<'a>]
         ensures { map (λ step. step.now) result.now ≡ filter (leads_from model.now) self.now }
     {
         self.groups.get(&model).unwrap_or(&self.none).as_slice()

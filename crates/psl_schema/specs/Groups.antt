@@ -1,5 +1,5 @@
 -- The rules in groups, in the order of their numbers.
-use Rattle.std.specs.Prelude.{List, [], ◌∷◌}
+use Rattle.std.specs.Prelude.{List, [], ◌∷◌, ◌++◌}
 use Rattle.psl_rules.specs.Accepted.{Rule}
 use Rattle.psl_rules.specs.Settings.{one_datasource, settings_are_given, has_a_model}
 use Rattle.psl_rules.specs.Names.{type_names_are_distinct, field_names_are_distinct, types_are_known, lists_are_of_models}
@@ -38,3 +38,7 @@ reference_rules = references_are_keys ∷ one_to_one_is_unique ∷ actions_are_k
 -- 25 and 26, on what is stored
 abbrev pub stored_rules : List Rule
 stored_rules = stored_names_are_distinct ∷ limits_hold ∷ []
+
+-- 16 to 26, on relations and on what is stored
+abbrev pub relation_rules : List Rule
+relation_rules = pair_rules ++ reference_rules ++ stored_rules

@@ -4,7 +4,7 @@ ghost use Rattle.psl_rules.specs.Accepted as spec;
 
 use crate::breach::Breach;
 use crate::fields::{broken_attribute, broken_block, broken_key, broken_type};
-use crate::relations::{broken_pair, broken_reference, broken_store};
+use crate::relations::broken_relation;
 use psl_parts::Types;
 use psl_text::Tree;
 use qe_text::Memory;
@@ -28,11 +28,5 @@ pub fn first_breach(alloc: Global, tree: &Tree) -> Result<Option<Breach>, Memory
     if let Some(breach) = broken_key(alloc, tree)? {
         return Ok(Some(breach));
     }
-    if let Some(breach) = broken_pair(alloc, &types)? {
-        return Ok(Some(breach));
-    }
-    if let Some(breach) = broken_reference(alloc, &types)? {
-        return Ok(Some(breach));
-    }
-    broken_store(alloc, &types)
+    broken_relation(alloc, &types)
 }

@@ -1,4 +1,3 @@
 pub mod Looked
-pub mod Places
 pub mod Shown
 pub mod Sided

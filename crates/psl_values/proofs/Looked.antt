@@ -7,7 +7,7 @@ use Rattle.psl_rules.specs.Parts.{Spelling, ModelField}
 use Rattle.psl_rules.specs.Relations.{End, ends}
 use Rattle.psl_sound.specs.SchemaOf.{is_same_end, end_number}
 use Rattle.psl_values.specs.Named.{Named, same_named, has_names, texts_of, end_names}
-use Rattle.psl_values.proofs.Places.{position_mapped}
+use Rattle.psl_parts.proofs.Looked.{position_mapped}
 
 -- among names, and among the ends that have them
 pub places_by_names : (names : List Named) (named : Named) (ends : List End) → map texts_of names ≡ map end_names ends

@@ -7,8 +7,8 @@ ghost use Rattle.psl_values.specs.Shown.{shown_field};
 use crate::numbered::Numbered;
 use psl_columns::{as_number, column_names, is_column, number_among};
 use psl_parts::Field as ModelField;
-use psl_relations::End;
-use psl_text::{Block, Entry};
+use psl_relations::{End, ModelIndex};
+use psl_text::Entry;
 use qe_base::{Field, RelId};
 use qe_text::{Items, Memory, Text};
 use std::alloc::Global;
@@ -87,7 +87,7 @@ impl<'s, 'a> Numbered<'s, 'a> {
     fn field_in(
         &self,
         columns: &[&str],
-        model: &'a Block,
+        model: &'a ModelIndex<'a>,
         field: ModelField<'a>,
     ) -> Result<Field, Memory>
         requires { map (λ name. name.now) columns.now ≡ spec.column_names self.now model.now }
@@ -107,7 +107,7 @@ impl<'s, 'a> Numbered<'s, 'a> {
         &self,
         alloc: Global,
         columns: &[&str],
-        model: &'a Block,
+        model: &'a ModelIndex<'a>,
         field: ModelField<'a>,
     ) -> Result<(Text, Field), Memory>
         requires { map (λ name. name.now) columns.now ≡ spec.column_names self.now model.now }
@@ -119,12 +119,17 @@ impl<'s, 'a> Numbered<'s, 'a> {
     }
 
     /// The fields of a model, in text order.
-    pub fn fields(&self, alloc: Global, model: &'a Block) -> Result<Items<(Text, Field)>, Memory>
+    pub fn fields(
+        &self,
+        alloc: Global,
+        model: &'a ModelIndex<'a>,
+    ) -> Result<Items<(Text, Field)>, Memory>
         ensures { IfOk result (λ fields. fields ≡ spec.fields_of self.now model.now) }
     {
-        let columns = column_names(alloc, self.types(), model)?;
+        let block = model.model();
+        let columns = column_names(alloc, self.types(), block)?;
         let mut fields = Items::new(alloc);
-        for entry in model.entries.as_slice() {
+        for entry in block.entries.as_slice() {
             if let Entry::Field {
                 name,
                 kind,

@@ -9,10 +9,10 @@ ghost use Rattle.qe_base.specs.declared.schema.Field.TheVariants as field;
 ghost use Rattle.psl_sound.specs.SchemaOf as spec;
 
 use crate::numbers::Models;
-use psl_columns::kind;
+use psl_columns::{Enums, kind};
 use psl_keys::id_names;
 use psl_parts::{Field as ModelField, Types, fields_named};
-use psl_relations::{End, Pair, ends, link_name, pairs};
+use psl_relations::{End, Pair, TreeIndex, ends, link_name, pairs};
 use psl_text::Block;
 use qe_base::{Column, Field, Fill, Key, Kind, Link, Table};
 use qe_text::{Items, Memory, Text};
@@ -72,9 +72,10 @@ pub fn linked<'p, 'e, 'a>(
 {
     let mut linked = Vec::new(alloc);
     for pair in pairs {
-        if pair.is_linked() {
-            linked.push(pair)?;
+        if !pair.is_linked() {
+            continue;
         }
+        linked.push(pair)?;
     }
     Ok(linked)
 }
@@ -110,29 +111,30 @@ pub fn links(alloc: Global, types: &Types) -> Result<Items<Link>, Memory>
     ensures { IfOk result (λ links. links ≡ spec.links_of types.now) }
 {
     let models = Models::of(alloc, types)?;
-    let ends = ends(alloc, types)?;
+    let tree = TreeIndex::of(alloc, &*types)?;
+    let ends = ends(alloc, &tree)?;
     let pairs = pairs(alloc, ends.as_slice())?;
     let linked = linked(alloc, pairs.as_slice())?;
     links_between(alloc, &models, linked.as_slice())
 }
 
 /// The kind of the first of these fields, and text where there is none.
-fn first_kind(alloc: Global, types: &Types, fields: &[ModelField]) -> Result<Kind, Memory>
-    ensures { IfOk result (λ kind. kind ≡ spec.first_kind (map (λ field. spec.kind_of types.now field.type.text) fields.now)) }
+fn first_kind(enums: &Enums, fields: &[ModelField]) -> Result<Kind, Memory>
+    ensures { IfOk result (λ kind. kind ≡ spec.first_kind (map (λ field. spec.kind_of enums.now field.type.text) fields.now)) }
 {
     match fields {
         [] => Ok(Kind::Text),
-        [first, ..] => kind(alloc, types, first.kind().text.as_str()),
+        [first, ..] => kind(enums, first.kind().text.as_str()),
     }
 }
 
 /// The kind of a model's id, where that is one column.
-fn id_kind(alloc: Global, types: &Types, model: &Block) -> Result<Kind, Memory>
-    ensures { IfOk result (λ kind. kind ≡ spec.id_kind types.now model.now) }
+fn id_kind(alloc: Global, enums: &Enums, model: &Block) -> Result<Kind, Memory>
+    ensures { IfOk result (λ kind. kind ≡ spec.id_kind enums.now model.now) }
 {
     let names = id_names(alloc, model)?;
     let fields = fields_named(alloc, model, names.as_slice())?;
-    first_kind(alloc, types, fields.as_slice())
+    first_kind(enums, fields.as_slice())
 }
 
 fn side_column(alloc: Global, name: &str, kind: Kind) -> Result<Column, Memory>
@@ -149,11 +151,11 @@ fn side_column(alloc: Global, name: &str, kind: Kind) -> Result<Column, Memory>
 }
 
 /// The columns of a link table: the ids of its two sides.
-fn side_columns(alloc: Global, types: &Types, pair: &Pair) -> Result<Items<Column>, Memory>
-    ensures { IfOk result (λ columns. columns ≡ spec.side_column (codes "A") (spec.id_kind types.now (spec.side_a pair.now).model) ∷ spec.side_column (codes "B") (spec.id_kind types.now (spec.side_b pair.now).model) ∷ []) }
+fn side_columns(alloc: Global, enums: &Enums, pair: &Pair) -> Result<Items<Column>, Memory>
+    ensures { IfOk result (λ columns. columns ≡ spec.side_column (codes "A") (spec.id_kind enums.now (spec.side_a pair.now).model) ∷ spec.side_column (codes "B") (spec.id_kind enums.now (spec.side_b pair.now).model) ∷ []) }
 {
-    let a = id_kind(alloc, types, side_a(pair).model())?;
-    let b = id_kind(alloc, types, side_b(pair).model())?;
+    let a = id_kind(alloc, enums, side_a(pair).model())?;
+    let b = id_kind(alloc, enums, side_b(pair).model())?;
     let mut columns = Items::new(alloc);
     columns.push(side_column(alloc, "A", a)?)?;
     columns.push(side_column(alloc, "B", b)?)?;
@@ -184,15 +186,15 @@ fn link_fields(alloc: Global) -> Result<Items<(Text, Field)>, Memory>
 }
 
 /// The table of pairs of ids that links a pair.
-pub fn link_table(alloc: Global, types: &Types, pair: &Pair) -> Result<Table, Memory>
-    ensures { IfOk result (λ table. table ≡ spec.link_table types.now pair.now) }
+pub fn link_table(alloc: Global, enums: &Enums, pair: &Pair) -> Result<Table, Memory>
+    ensures { IfOk result (λ table. table ≡ spec.link_table enums.now pair.now) }
 {
     let name = link_name(alloc, pair)?;
     Ok(Table {
         stored: name.copy(alloc)?,
         name,
         link: true,
-        columns: side_columns(alloc, types, pair)?,
+        columns: side_columns(alloc, enums, pair)?,
         keys: link_keys(alloc)?,
         fields: link_fields(alloc)?,
         indexes: Items::new(alloc),

@@ -12,8 +12,9 @@ ghost use Rattle.psl_sound.specs.SchemaOf as spec;
 
 use crate::link::{side_a, side_b};
 use crate::numbers::Models;
+use psl_columns::Enums;
 use psl_parts::{Field, Types, first_places, grouped};
-use psl_relations::{End, Pair, holders};
+use psl_relations::{End, ModelIndex, Pair, holders};
 use psl_text::Block;
 use qe_base::TableId;
 use qe_text::Memory;
@@ -31,7 +32,7 @@ type Side<'a> = (&'a str, &'a str, Option<&'a str>);
 /// number them.
 #[derive(Drop)]
 pub struct Numbered<'s, 'a> {
-    models: &'s Models<'s, 'a>,
+    models: &'s Models<'a, 'a>,
     numbers: HashMap<Named<'a>, usize>,
     places: HashMap<Named<'a>, usize>,
     /// The ends that hold foreign keys, by their sides.
@@ -195,7 +196,7 @@ impl<'s, 'a> Numbered<'s, 'a> {
     /// A tree, with all its ends and all its pairs of lists.
     pub fn of(
         alloc: Global,
-        models: &'s Models<'s, 'a>,
+        models: &'s Models<'a, 'a>,
         ends: &'s [End<'a>],
         lists: &[&Pair<'s, 'a>],
     ) -> Result<Numbered<'s, 'a>, Memory>
@@ -223,10 +224,17 @@ impl<'s, 'a> Numbered<'s, 'a> {
         })
     }
 
-    pub fn types(&self) -> &'s Types<'a>
+    pub fn types(&self) -> &'a Types<'a>
         ensures { result.now ≡ self.now }
     {
         self.models.types()
+    }
+
+    /// The enums of the tree.
+    pub fn enums(&self) -> &Enums<'a>
+        ensures { result.now ≡ self.now }
+    {
+        self.models.enums()
     }
 
     /// The number of a link's table.
@@ -245,10 +253,10 @@ impl<'s, 'a> Numbered<'s, 'a> {
     }
 
     /// The end that a field of a model is.
-    pub fn end(&self, model: &'a Block, field: Field<'a>) -> End<'a>
+    pub fn end(&self, model: &'a ModelIndex<'a>, field: Field<'a>) -> End<'a>
         ensures { result ≡ spec.end_of self.now model.now field.entry }
     {
-        End::of(self.number(model, &field), model, field)
+        End::of(self.number(model.model(), &field), model, field)
     }
 
     /// The place of an end among those that hold foreign keys.

@@ -3,7 +3,7 @@ ghost use Rattle.std.specs.Prelude.{◌≡◌, ◌+◌, IfOk, map, length, posit
 ghost use Rattle.psl_rules.specs.Parts.{models};
 ghost use Rattle.psl_sound.specs.SchemaOf as spec;
 
-use psl_columns::as_number;
+use psl_columns::{Enums, as_number};
 use psl_parts::{Types, blocks_of, first_places};
 use psl_text::{Block, Word};
 use qe_base::TableId;
@@ -12,10 +12,11 @@ use std::alloc::Global;
 use std::collections::HashMap;
 use std::marker::Model;
 
-/// A tree, with the names of its models to number them.
+/// A tree, with the names of its models to number them, and its enums.
 #[derive(Drop)]
 pub struct Models<'t, 'a> {
     types: &'t Types<'a>,
+    enums: Enums<'t>,
     names: Vec<&'a str>,
     places: HashMap<&'a str, usize>,
 }
@@ -37,7 +38,7 @@ impl<'t, 'a> Model for Models<'t, 'a> {
 
     ghost view = { λ m. m.types.now };
 
-    ghost invariant = { λ m. (map (λ name. name.now) m.names.items ≡ map block_name (models m.types.now)) × ((name : Bor Spelling) → get same_text m.places name ≡ position (same_text name) m.names.items) };
+    ghost invariant = { λ m. (m.enums ≡ m.types.now) × (map (λ name. name.now) m.names.items ≡ map block_name (models m.types.now)) × ((name : Bor Spelling) → get same_text m.places name ≡ position (same_text name) m.names.items) };
 }
 
 fn block_names<'a>(alloc: Global, blocks: &[&'a Block]) -> Result<Vec<&'a str>, Memory>
@@ -57,8 +58,10 @@ impl<'t, 'a> Models<'t, 'a> {
         let blocks = blocks_of(alloc, types.tree(), Word::Model)?;
         let names = block_names(alloc, blocks.as_slice())?;
         let places = first_places(alloc, names.as_slice())?;
+        let enums = Enums::of(alloc, &*types)?;
         Ok(Models {
             types,
+            enums,
             names,
             places,
         })
@@ -68,6 +71,13 @@ impl<'t, 'a> Models<'t, 'a> {
         ensures { result.now ≡ self.now }
     {
         self.types
+    }
+
+    /// The enums of the tree.
+    pub fn enums(&self) -> &Enums<'t>
+        ensures { result.now ≡ self.now }
+    {
+        &self.enums
     }
 
     /// The place of the model of this name.

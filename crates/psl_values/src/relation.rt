@@ -8,7 +8,7 @@ ghost use Rattle.psl_sound.specs.SchemaOf as spec;
 use crate::numbers::Models;
 use psl_columns::column_numbers;
 use psl_parts::Types;
-use psl_relations::{End, Sides, action, ends, holders, partners};
+use psl_relations::{End, Sides, TreeIndex, action, ends, holders, partners};
 use qe_base::{Action, Relation};
 use qe_text::{Items, Memory};
 use std::alloc::Global;
@@ -112,7 +112,8 @@ pub fn relations(alloc: Global, types: &Types) -> Result<Items<Relation>, Memory
     ensures { IfOk result (λ relations. relations ≡ spec.relations_of types.now) }
 {
     let models = Models::of(alloc, types)?;
-    let ends = ends(alloc, types)?;
+    let tree = TreeIndex::of(alloc, &*types)?;
+    let ends = ends(alloc, &tree)?;
     let held = holders(alloc, ends.as_slice())?;
     let sides = Sides::of(alloc, ends.as_slice())?;
     relations_held(alloc, &models, &sides, held.as_slice())

@@ -5,25 +5,29 @@ ghost use Rattle.psl_sound.specs.SchemaOf as spec;
 use crate::link::{link_table, linked};
 use crate::numbered::Numbered;
 use crate::numbers::Models;
-use psl_columns::{columns, indexes, keys};
-use psl_parts::{Types, blocks_of};
-use psl_relations::{Pair, ends, mapped_model, pairs};
-use psl_text::{Block, Word};
+use psl_columns::{Enums, columns, indexes, keys};
+use psl_parts::Types;
+use psl_relations::{ModelIndex, Pair, TreeIndex, ends, mapped_model, pairs};
 use qe_base::Table;
 use qe_text::{Items, Memory, Text};
 use std::alloc::Global;
 
-fn table<'a>(alloc: Global, numbered: &Numbered<'_, 'a>, model: &'a Block) -> Result<Table, Memory>
-    ensures { IfOk result (λ table. table ≡ spec.table_of numbered.now model.now) }
+fn table<'a>(
+    alloc: Global,
+    numbered: &Numbered<'_, 'a>,
+    index: &'a ModelIndex<'a>,
+) -> Result<Table, Memory>
+    ensures { IfOk result (λ table. table ≡ spec.table_of numbered.now index.now) }
 {
     let types = numbered.types();
+    let model = index.model();
     Ok(Table {
         name: model.name.text.copy(alloc)?,
         stored: Text::from_str(alloc, mapped_model(model))?,
         link: false,
-        columns: columns(alloc, types, model)?,
+        columns: columns(alloc, numbered.enums(), model)?,
         keys: keys(alloc, types, model)?,
-        fields: numbered.fields(alloc, model)?,
+        fields: numbered.fields(alloc, index)?,
         indexes: indexes(alloc, types, model)?,
     })
 }
@@ -33,9 +37,9 @@ fn push_models<'a>(
     alloc: Global,
     tables: &mut Items<Table>,
     numbered: &Numbered<'_, 'a>,
-    models: &[&'a Block],
+    models: &'a [ModelIndex<'a>],
 ) -> Result<(), Memory>
-    ensures { OnOk result (tables.new ≡ tables.old ++ map (spec.table_of numbered.now) (map (λ model. model.now) models.now)) }
+    ensures { OnOk result (tables.new ≡ tables.old ++ map (spec.table_of numbered.now) models.now) }
 {
     for model in models {
         tables.push(table(alloc, numbered, model)?)?;
@@ -47,13 +51,13 @@ fn push_models<'a>(
 fn push_links(
     alloc: Global,
     tables: &mut Items<Table>,
-    types: &Types,
+    enums: &Enums,
     linked: &[&Pair],
 ) -> Result<(), Memory>
-    ensures { OnOk result (tables.new ≡ tables.old ++ map (spec.link_table types.now) (map (λ pair. pair.now) linked.now)) }
+    ensures { OnOk result (tables.new ≡ tables.old ++ map (spec.link_table enums.now) (map (λ pair. pair.now) linked.now)) }
 {
     for pair in linked {
-        tables.push(link_table(alloc, types, pair)?)?;
+        tables.push(link_table(alloc, enums, pair)?)?;
     }
     Ok(())
 }
@@ -62,14 +66,14 @@ fn push_links(
 pub fn tables(alloc: Global, types: &Types) -> Result<Items<Table>, Memory>
     ensures { IfOk result (λ tables. tables ≡ spec.tables_of types.now) }
 {
-    let models = Models::of(alloc, types)?;
-    let ends = ends(alloc, types)?;
+    let tree = TreeIndex::of(alloc, &*types)?;
+    let models = Models::of(alloc, tree.types())?;
+    let ends = ends(alloc, &tree)?;
     let pairs = pairs(alloc, ends.as_slice())?;
     let linked = linked(alloc, pairs.as_slice())?;
     let numbered = Numbered::of(alloc, &models, ends.as_slice(), linked.as_slice())?;
-    let blocks = blocks_of(alloc, types.tree(), Word::Model)?;
     let mut tables = Items::new(alloc);
-    push_models(alloc, &mut tables, &numbered, blocks.as_slice())?;
-    push_links(alloc, &mut tables, types, linked.as_slice())?;
+    push_models(alloc, &mut tables, &numbered, tree.all())?;
+    push_links(alloc, &mut tables, models.enums(), linked.as_slice())?;
     Ok(tables)
 }

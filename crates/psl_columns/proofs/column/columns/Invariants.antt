@@ -9,5 +9,5 @@ use Rattle.psl_columns.proofs.column.columns.Given as goal
 
 abbrev pub invariant-loop-entry : goal.invariant-loop-entry
 invariant-loop-entry l =
-    let columns : List Entry → List Column = λ entries. map (column_of l.types) (filter (is_column l.types) (filter_map field_of entries)) in
+    let columns : List Entry → List Column = λ entries. map (column_of l.enums) (filter (is_column l.enums) (filter_map field_of entries)) in
     l.columns ++ columns (drop l.entry-index l.entry-items) ≡ columns l.entry-items

@@ -7,6 +7,6 @@ use Rattle.psl_relations.proofs.foreign.references_are_keys.Goals as goal
 
 pub returns : goal.returns
 returns c =
-    found_among refers_to_key _ _ _ _ c.first_without_key.result (ap models c.in_ok-models.ensures)
+    found_among refers_to_key _ _ _ _ c.first_without_key.result (ap models c.in_ok-targets.ensures)
     (ap (map (λ (end : Bor End). end.now)) c.as_slice-2.ensures.value ∙ c.in_ok-held.ensures ∙ ap (filter has_fields) (c.as_slice.ensures.value ∙ c.in_ok-ends.ensures))
     c.first_without_key.ensures

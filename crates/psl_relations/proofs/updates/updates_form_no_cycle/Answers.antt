@@ -9,5 +9,5 @@ returns c =
     let ends_are = c.as_slice.ensures.value ∙ c.in_ok-ends.ensures in
     let arrows_are = c.in_ok-arrows.ensures ∙ ap (λ (all : List End). filter (is_arrow (filter has_fields all)) (filter has_fields all)) ends_are in
     let steps_are = c.as_slice-3.ensures.value ∙ c.in_ok-steps.ensures ∙ ap (map step_of) (ap (map (λ (arrow : Bor End). arrow.now)) c.as_slice-2.ensures.value ∙ arrows_are) in
-    found_among (λ (steps : List Step) (arrow : End). not (is_on_cycle steps arrow)) _ _ _ _ c.first_on_cycle.result (c.in_ok-outgoing.ensures ∙ steps_are)
+    found_among (λ (steps : List Step) (arrow : End). not (is_on_cycle steps arrow)) _ _ _ _ c.first_on_cycle.result (c.in_ok-ranked.ensures ∙ steps_are)
     (ap (map (λ (arrow : Bor End). arrow.now)) c.as_slice-4.ensures.value ∙ arrows_are) c.first_on_cycle.ensures

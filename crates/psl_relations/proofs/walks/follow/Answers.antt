@@ -1,5 +1,5 @@
 use Rattle.psl_relations.proofs.Stepped.{turn}
-use Rattle.psl_relations.proofs.Walked.{begins_more, begins_itself}
+use Rattle.psl_relations.proofs.Walked.{begins_more}
 use Rattle.psl_relations.proofs.walks.follow.Goals as goal
 
 pub loop-step-preserved : goal.loop-step-preserved

@@ -1,4 +1,4 @@
-use Rattle.std.proofs.Common.{rules, arith, ap, sym, ◌∙◌, ◌≡◌, ◌<◌, ◌≤◌, ◌||◌, ◌++◌, ◌∷◌, [], List, ℕ, map, length, cond}
+use Rattle.std.proofs.Common.{rules, ap, ◌∙◌, ◌<◌, ◌≤◌, ◌||◌, ◌++◌, ◌∷◌, [], List, map, length, cond}
 use Rattle.qe_text.specs.Lists.{is_among}
 use Rattle.psl_rules.specs.Updates.{Step}
 use Rattle.psl_parts.proofs.Lookups.{has}

@@ -4,4 +4,4 @@ use Rattle.psl_values.proofs.table.push_models.Given as goal
 
 abbrev pub invariant-loop-model : goal.invariant-loop-model
 invariant-loop-model l =
-    l.tables ++ map (table_of l.numbered) (map (λ model. model.now) (drop l.model-index l.models)) ≡ l.fn.tables ++ map (table_of l.numbered) (map (λ model. model.now) l.models)
+    l.tables ++ map (table_of l.numbered) (drop l.model-index l.models) ≡ l.fn.tables ++ map (table_of l.numbered) l.models

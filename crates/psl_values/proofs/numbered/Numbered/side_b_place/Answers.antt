@@ -3,7 +3,7 @@ use Rattle.psl_text.specs.declared.tree.Tree.{Tree}
 use Rattle.psl_rules.specs.Stored.{linked}
 use Rattle.psl_sound.specs.SchemaOf.{is_same_end, side_b}
 use Rattle.psl_values.proofs.Looked.{found}
-use Rattle.psl_values.proofs.Places.{position_mapped}
+use Rattle.psl_parts.proofs.Looked.{position_mapped}
 use Rattle.psl_values.proofs.numbered.Numbered.side_b_place.Goals as goal
 
 pub returns : goal.returns

@@ -8,6 +8,7 @@ use Rattle.psl_values.proofs.numbers.Models.of.Goals as goal
 
 pub invariant_of-result : goal.invariant_of-result
 invariant_of-result c = (
+  c.in_ok-enums.ensures,
   c.in_ok-names.ensures ∙ ap (map block_name) (ap (map (λ (block : Bor Block). block.now)) c.as_slice.ensures.value ∙ c.in_ok-blocks.ensures ∙ ap models c.tree.ensures),
   λ name. c.in_ok-places.ensures name ∙ ap (position (same_text name)) c.as_slice-2.ensures.value,
 )

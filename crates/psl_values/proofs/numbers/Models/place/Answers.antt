@@ -9,6 +9,6 @@ use Rattle.psl_values.proofs.numbers.Models.place.Goals as goal
 pub returns : goal.returns
 returns c =
     let same : c.self.inside.types.now ≡ c.args.self.now = search rules in
-    c.copied.ensures ∙ c.get.ensures.value ∙ c.self.invariant.1 c.as_str.result ∙ sym (position_map c.self.inside.names.items c.as_str.result.now)
+    c.copied.ensures ∙ c.get.ensures.value ∙ c.self.invariant.2 c.as_str.result ∙ sym (position_map c.self.inside.names.items c.as_str.result.now)
     ∙ ap (λ text. position (bytes_eq text) (map (λ (name : Bor (List ℕ)). name.now) c.self.inside.names.items)) c.as_str.ensures.text
-    ∙ ap (position (bytes_eq c.args.name.now)) (c.self.invariant.0 ∙ ap (λ (tree : Tree). map block_name (models tree)) same)
+    ∙ ap (position (bytes_eq c.args.name.now)) (c.self.invariant.1 ∙ ap (λ (tree : Tree). map block_name (models tree)) same)

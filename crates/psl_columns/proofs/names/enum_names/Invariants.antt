@@ -1,7 +1,0 @@
-use Rattle.std.proofs.Common.{◌≡◌, ◌++◌, map, drop}
-use Rattle.psl_sound.specs.SchemaOf.{block_name}
-use Rattle.psl_columns.proofs.names.enum_names.Given as goal
-
-abbrev pub invariant-loop-block : goal.invariant-loop-block
-invariant-loop-block l =
-    map (λ name. name.now) l.names.items ++ map block_name (map (λ block. block.now) (drop l.block-index l.block-items)) ≡ map block_name (map (λ block. block.now) l.block-items)
