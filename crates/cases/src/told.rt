@@ -2,8 +2,9 @@
 ghost use Rattle.std.specs.Prelude.{◌≡◌, Some, IfSome};
 ghost use Rattle.qe_base.specs.Schemas.{Schema as SchemaSeen};
 ghost use Rattle.qe_cli.specs.Refused.{HasSchema};
-ghost use Rattle.qe_view.specs.Attached.{HasTable};
+ghost use Rattle.qe_view.specs.Attached.{HasTable, shapes_of};
 ghost use Rattle.qe_view.specs.Layouts.{layout_of};
+ghost use Rattle.qe_view.specs.Right.{has_table};
 
 use crate::case::{Case, Question};
 use psl_schema::check;
@@ -66,6 +67,13 @@ fn push_row(alloc: Global, text: &mut Vec<u8>, row: &Row) -> Result<(), AllocErr
 /// Appends a line of a text.
 fn push_text(text: &mut Vec<u8>, line: &str) -> Result<(), AllocError> {
     text.extend_from_slice(line.as_bytes())
+}
+
+/// Whether a schema has the table of a number.
+fn has_table(schema: &Schema, table: TableId) -> bool
+    ensures { result ≡ has_table (shapes_of (layout_of schema.now)) table.0 }
+{
+    table.0 < schema.tables()
 }
 
 /// Appends the rows of a table.
@@ -139,8 +147,10 @@ fn push_answer<C: Connector>(
     ensures { C.attached tables.new ≡ Some (layout_of schema.now) }
 {
     match schema.find(question.table.as_str()) {
-        Some(table) => push_table(alloc, text, question, table, tables),
-        None => {
+        Some(table) if has_table(schema, table) => {
+            push_table(alloc, text, question, table, tables)
+        }
+        _ => {
             push_text(text, "no such table\n")?;
             Ok(())
         }
