@@ -1,21 +1,18 @@
 -- Why the connector that a run hands back may be asked for the rows of its schema.
-use Rattle.std.proofs.Common.{◌≡◌, ℕ, List, [], ◌∷◌, Option, Some, None, refl, sym, ap, ◌∙◌, subst, true}
+use Rattle.std.proofs.Common.{◌≡◌, ℕ, List, [], ◌∷◌, Option, Some, None, refl, sym, ap, ◌∙◌, subst}
 use Rattle.std.specs.Prelude.{codes, unwrap_or}
-use Rattle.qe_base.specs.Outside.{Files}
+use Rattle.qe_base.specs.Outside.{Files, Seen}
 use Rattle.qe_base.specs.Schemas.{Schema}
 use Rattle.psl_text.proofs.BlockRules.{one_tree_only}
 use Rattle.psl_sound.specs.SchemaOf.{schema_of}
-use Rattle.qe_view.specs.Attached.{HasTable, shapes_of}
-use Rattle.qe_view.specs.Layouts.{Layout, layout_of}
-use Rattle.qe_view.specs.Right.{has_table}
+use Rattle.qe_view.specs.Attached.{Connected}
 use Rattle.qe_cli.specs.Asked.{command_of}
-use Rattle.qe_cli.specs.Command.{IsAttachedFor, FileHolds}
+use Rattle.qe_cli.specs.Command.{FileHolds}
+use Rattle.qe_cli.specs.Connected.{IsAttached}
+use Rattle.qe_cli.specs.Says.{IsAttachedFor}
 use Rattle.qe_cli.specs.Refused.{HasSchema}
 use Rattle.qe_cli.specs.declared.words.Command.{Command}
 use Rattle.qe_cli.specs.declared.words.Command.TheVariants as command
-
-pub may_ask : (schema : Schema) (attached : Option Layout) (table : ℕ) → attached ≡ Some (layout_of schema) → has_table (shapes_of (layout_of schema)) table ≡ true → HasTable attached table
-may_ask schema attached table is has = subst (λ (a : Option Layout). HasTable a table) (sym is) has
 
 -- a text has one schema
 one_schema : (text : List ℕ) (a b : Schema) → HasSchema text a → HasSchema text b → a ≡ b
@@ -31,15 +28,14 @@ usual_run : command_of usual_words ≡ Some (command.Run, codes "schema")
 usual_run = refl
 
 -- the connector of a run over the one file is attached for the schema of its text
-attached_of_usual : (text : List ℕ) (attached : Option Layout) (schema : Schema) → IsAttachedFor usual_words (one_file text) attached → HasSchema text schema → attached ≡ Some (layout_of schema)
-attached_of_usual text attached schema (found, (name, named, holds), is) has =
+attached_of_usual : (text : List ℕ) (before : Seen) (back : Connected) (schema : Schema) → before.files ≡ one_file text → IsAttachedFor usual_words before back → HasSchema text schema → IsAttached schema back
+attached_of_usual text before back schema one (found, (name, named, holds), is) has =
     let same : name ≡ codes "schema" = ap (λ (o : Option (Command × List ℕ)). (unwrap_or o (command.Run, name)).1) (sym named ∙ usual_run) in
-    let here : HasSchema text found = subst (λ n. FileHolds (one_file text) n (λ t. HasSchema t found)) same holds in
-    is ∙ ap (λ s. Some (layout_of s)) (one_schema text found schema here has)
+    let here : HasSchema text found = subst (λ n. FileHolds (one_file text) n (λ t. HasSchema t found)) same (subst (λ f. FileHolds f name (λ t. HasSchema t found)) one holds) in
+    subst (λ s. IsAttached s back) (one_schema text found schema here has) is
 
-pub attached_of : (words : List (List ℕ)) (files : Option Files) (text : List ℕ) (attached : Option Layout) (schema : Schema) → words ≡ usual_words → files ≡ one_file text → IsAttachedFor words files attached → HasSchema text schema → attached ≡ Some (layout_of schema)
-attached_of words files text attached schema usual one opened has =
-    attached_of_usual text attached schema (subst (λ f. IsAttachedFor usual_words f attached) one (subst (λ w. IsAttachedFor w files attached) usual opened)) has
+pub attached_of : (words : List (List ℕ)) (before : Seen) (text : List ℕ) (back : Connected) (schema : Schema) → words ≡ usual_words → before.files ≡ one_file text → IsAttachedFor words before back → HasSchema text schema → IsAttached schema back
+attached_of words before text back schema usual one opened has = attached_of_usual text before back schema one (subst (λ w. IsAttachedFor w before back) usual opened) has
 
 -- the words ask for a run
 pub asks_run : (words : List (List ℕ)) → words ≡ usual_words → (name : List ℕ) × (command_of words ≡ Some (command.Run, name))

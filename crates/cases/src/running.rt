@@ -1,5 +1,5 @@
 //! Carries a case out, by the program's top call over a host and a connector in memory.
-ghost use Rattle.std.specs.Prelude.{◌≡◌, Some, IfOk, ◌∷◌, [], map, string_bytes, codes};
+ghost use Rattle.std.specs.Prelude.{◌≡◌, IfOk, ◌∷◌, [], map, string_bytes, codes};
 ghost use Rattle.qe_base.specs.MemHost.{host_files};
 
 use crate::case::{Case, Outcome};
@@ -12,7 +12,7 @@ use std::alloc::{AllocError, Global};
 
 /// A host whose one file is the schema.
 fn host_of(alloc: Global, case: &Case) -> Result<MemHost, Memory>
-    ensures { IfOk result (λ host. host_files host ≡ Some ((codes "schema", case.now.schema.items) ∷ [])) }
+    ensures { IfOk result (λ host. host_files host ≡ (codes "schema", case.now.schema.items) ∷ []) }
 {
     let mut files = Items::new(alloc);
     let text = Bytes::from_slice(alloc, case.schema.as_slice())?;

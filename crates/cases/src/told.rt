@@ -1,6 +1,7 @@
 //! What the connector tells in the end, as lines of text.
-ghost use Rattle.std.specs.Prelude.{◌≡◌, Some, IfSome};
+ghost use Rattle.std.specs.Prelude.{◌≡◌, IfSome};
 ghost use Rattle.qe_base.specs.Schemas.{Schema as SchemaSeen};
+ghost use Rattle.qe_cli.specs.Connected.{IsAttached};
 ghost use Rattle.qe_cli.specs.Refused.{HasSchema};
 ghost use Rattle.qe_view.specs.Attached.{HasTable, shapes_of};
 ghost use Rattle.qe_view.specs.Layouts.{layout_of};
@@ -83,8 +84,8 @@ fn push_rows<C: Connector>(
     table: TableId,
     tables: &mut C,
 ) -> Result<(), Memory>
-    requires { HasTable (C.attached tables.old) table.0 }
-    ensures { C.attached tables.new ≡ C.attached tables.old }
+    requires { HasTable (C.seen tables.old) table.0 }
+    ensures { (C.seen tables.new).attached ≡ (C.seen tables.old).attached }
 {
     match tables.scan(table) {
         Ok(rows) => {
@@ -105,8 +106,8 @@ fn push_counter<C: Connector>(
     table: TableId,
     tables: &mut C,
 ) -> Result<(), Memory>
-    requires { HasTable (C.attached tables.old) table.0 }
-    ensures { C.attached tables.new ≡ C.attached tables.old }
+    requires { HasTable (C.seen tables.old) table.0 }
+    ensures { (C.seen tables.new).attached ≡ (C.seen tables.old).attached }
 {
     let line = match tables.last(table) {
         Ok(last) => format!(in alloc; "counter {name} {last}\n")?,
@@ -124,8 +125,8 @@ fn push_table<C: Connector>(
     table: TableId,
     tables: &mut C,
 ) -> Result<(), Memory>
-    requires { HasTable (C.attached tables.old) table.0 }
-    ensures { C.attached tables.new ≡ C.attached tables.old }
+    requires { HasTable (C.seen tables.old) table.0 }
+    ensures { (C.seen tables.new).attached ≡ (C.seen tables.old).attached }
 {
     let name = question.table.as_str();
     if question.counter {
@@ -143,8 +144,8 @@ fn push_answer<C: Connector>(
     schema: &Schema,
     tables: &mut C,
 ) -> Result<(), Memory>
-    requires { C.attached tables.old ≡ Some (layout_of schema.now) }
-    ensures { C.attached tables.new ≡ Some (layout_of schema.now) }
+    requires { IsAttached schema.now (C.seen tables.old) }
+    ensures { IsAttached schema.now (C.seen tables.new) }
 {
     match schema.find(question.table.as_str()) {
         Some(table) if has_table(schema, table) => {
@@ -177,7 +178,7 @@ fn answers<C: Connector>(
     schema: &Schema,
     tables: C,
 ) -> Result<Vec<u8>, Memory>
-    requires { C.attached tables ≡ Some (layout_of schema.now) }
+    requires { IsAttached schema.now (C.seen tables) }
 {
     let mut tables = tables;
     let mut text = Vec::new(alloc);
@@ -194,7 +195,7 @@ pub fn told_of<C: Connector>(
     status: u8,
     tables: C,
 ) -> Result<Vec<u8>, Memory>
-    requires { status ≡ 0 → (schema : SchemaSeen) → HasSchema case.now.schema.items schema → C.attached tables ≡ Some (layout_of schema) }
+    requires { status ≡ 0 → (schema : SchemaSeen) → HasSchema case.now.schema.items schema → IsAttached schema (C.seen tables) }
 {
     if case.questions.is_empty() {
         return Ok(Vec::new(alloc));

@@ -1,5 +1,5 @@
-use Rattle.std.proofs.Common.{◌≡◌, ap, ◌∙◌, map, string_bytes}
-use Rattle.qe_base.specs.MemHost.{host_files}
+use Rattle.std.proofs.Common.{◌≡◌, Some, ap, ◌∙◌, map, string_bytes}
+use Rattle.qe_base.specs.MemHost.{host_seen}
 use Rattle.cases.proofs.Attached.{usual_words, one_file, attached_of, asks_run}
 use Rattle.cases.proofs.running.outcome_of_run.Goals as goal
 
@@ -7,5 +7,5 @@ pub told_of-requires : goal.told_of-requires
 told_of-requires c = λ well schema has.
     let text = c.args.case.now.schema.items in
     let usual : map string_bytes c.as_slice-2.result.now ≡ usual_words = ap (λ words. map string_bytes words) c.as_slice-2.ensures.value ∙ c.in_ok-words.ensures in
-    let one : host_files c.in_ok-host.host ≡ one_file text = c.in_ok-host.ensures in
-    attached_of (map string_bytes c.as_slice-2.result.now) (host_files c.in_ok-host.host) text _ schema usual one (c.command-status.ensures.opened (asks_run (map string_bytes c.as_slice-2.result.now) usual) well) has
+    let one : (host_seen c.in_ok-host.host).files ≡ one_file text = ap Some c.in_ok-host.ensures in
+    attached_of (map string_bytes c.as_slice-2.result.now) (host_seen c.in_ok-host.host) text _ schema usual one (c.command-status.ensures.opened well (asks_run (map string_bytes c.as_slice-2.result.now) usual)) has

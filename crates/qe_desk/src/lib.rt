@@ -1,7 +1,0 @@
-//! Answering operations over the tables that a connector keeps.
-#![tactic(auto)]
-
-mod desk;
-mod reply;
-
-pub use desk::ConnectorDesk;
