@@ -6,4 +6,5 @@ pub mod Newlines
 pub mod Reading
 pub mod Replied
 pub mod Taken
+pub mod Whole
 pub mod Wrote
