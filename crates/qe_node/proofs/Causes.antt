@@ -1,5 +1,5 @@
 -- Faults and other things seen, over several calls.
-use Rattle.std.proofs.Common.{◌≡◌, ℕ, ◌≤◌, refl, sym, ap, ◌∙◌, subst, le_trans, le_refl, Bool, false}
+use Rattle.std.proofs.Common.{refl, ap, ◌∙◌, subst, le_trans, le_refl}
 use Rattle.qe_base.specs.Causes.{Faults, HasCause, Rose}
 use Rattle.qe_base.specs.Outside.{Seen, OnlyRead, OnlyWrote}
 use Rattle.qe_node.specs.Port.{OnlyMoved, Wrote}

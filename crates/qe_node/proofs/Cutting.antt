@@ -1,5 +1,5 @@
 -- Lines cut from bytes.
-use Rattle.std.proofs.Common.{◌≡◌, ℕ, List, [], ◌∷◌, ◌++◌, Bool, true, false, cond, not, ◌||◌, if◌then◌else◌, filter, refl, sym, ap, ◌∙◌, append-nil, append_assoc, true≢false}
+use Rattle.std.proofs.Common.{◌≡◌, ℕ, List, [], ◌∷◌, ◌++◌, Bool, true, false, cond, not, ◌||◌, if◌then◌else◌, refl, sym, ap, ◌∙◌, append_assoc, true≢false}
 use Rattle.qe_history.specs.Lines.{ahead, all_but_last, cut, is_blank}
 use Rattle.qe_node.specs.Taking.{filled, has_newline}
 
@@ -48,4 +48,4 @@ all_but_this (piece ∷ second ∷ rest) last = ap (λ l. piece ∷ l) (all_but_
 pub cut_on : (pending line later rest more : List ℕ) (whole : List ℕ) → has_newline pending ≡ false → has_newline line ≡ false → whole ≡ pending ++ line → rest ≡ line ++ 10 ∷ later → cut ((pending ++ rest) ++ more) ≡ whole ∷ cut (later ++ more)
 cut_on pending line later rest more whole first second whole_is rest_is =
     ap (λ r. cut ((pending ++ r) ++ more)) rest_is ∙ ap (λ l. cut (l ++ more)) (sym (append_assoc pending line (10 ∷ later))) ∙ ap cut (append_assoc (pending ++ line) (10 ∷ later) more)
-        ∙ cut_line (pending ++ line) (later ++ more) (both_one pending line first second) ∙ ap (λ w. w ∷ cut (later ++ more)) (sym whole_is)
+    ∙ cut_line (pending ++ line) (later ++ more) (both_one pending line first second) ∙ ap (λ w. w ∷ cut (later ++ more)) (sym whole_is)

@@ -1,5 +1,5 @@
 -- What a core did for lines, and then for more.
-use Rattle.std.proofs.Common.{◌≡◌, ℕ, ◌+◌, ◌≤◌, suc, List, [], ◌∷◌, ◌++◌, length, refl, sym, ap, ◌∙◌, subst, append_assoc, append-nil, length-append, arith, inl, add_assoc, zero-add, flat_map}
+use Rattle.std.proofs.Common.{◌≡◌, ℕ, ◌+◌, List, [], ◌∷◌, ◌++◌, length, refl, sym, ap, ◌∙◌, subst, append_assoc, append-nil, length-append, arith, inl, add_assoc, zero-add, flat_map}
 use Rattle.std.proofs.lemmas.Grind.{flat_map-append}
 use Rattle.qe_base.specs.Schemas.{Schema}
 use Rattle.qe_base.specs.declared.event.Reply.{Reply}
@@ -74,9 +74,10 @@ pub leads_entered : (schema : Schema) (op : Op) (reply : Reply) (below : Connect
 leads_entered schema op reply below place after next next_is goes calls = record {
   stands = λ opening done stands length_is.
       let grown = history_more done (entered op reply) in
-      let one = entry_of (what.Single op) reply in
-      (subst (StandsFor schema after opening) (sym grown) (goes opening (history_of done) 0 stands length_is (inl (record { greeting = entry_of what.Hello replies.Hello; at = refl; own = refl; greets = tt }))),
-      next_is ∙ ap (λ n. n + 1) length_is ∙ sym (length-append (history_of done) (one ∷ [])) ∙ ap length (sym grown));
+      let one = entry_of (what.Single op) reply in (
+        subst (StandsFor schema after opening) (sym grown) (goes opening (history_of done) 0 stands length_is (inl (record { greeting = entry_of what.Hello replies.Hello; at = refl; own = refl; greets = tt }))),
+        next_is ∙ ap (λ n. n + 1) length_is ∙ sym (length-append (history_of done) (one ∷ [])) ∙ ap length (sym grown),
+      );
   calls = one_more (both_calls (calls_of schema op) one_apply) below.calls after.calls calls.most;
 }
 

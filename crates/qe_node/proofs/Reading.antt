@@ -1,5 +1,5 @@
 -- Reading an input piece by piece.
-use Rattle.std.proofs.Common.{◌≡◌, ℕ, zero, suc, ◌+◌, ◌<◌, ◌≤◌, List, [], ◌∷◌, ◌++◌, Bool, true, false, refl, sym, ap, ◌∙◌, subst, append_assoc, append-nil, Option, Some, None, length, take, drop, arith, length-append, is_err, IfSome, ◌↔◌}
+use Rattle.std.proofs.Common.{◌≡◌, ℕ, zero, suc, ◌+◌, ◌<◌, ◌≤◌, List, [], ◌∷◌, ◌++◌, false, refl, sym, ap, ◌∙◌, subst, append_assoc, append-nil, Option, Some, None, length, take, drop, arith, length-append, is_err, IfSome, ◌↔◌}
 use Rattle.std.specs.Prelude.{Result, Ok, Err}
 use Rattle.std.proofs.Math.Seq.{take-append_seam}
 use Rattle.std.proofs.lemmas.List.{length-take-le, take-append-drop}
@@ -27,7 +27,7 @@ pub record IsReading (limit : ℕ) (schema : Schema) (pending : List ℕ) (room 
   pub none_yet : 0 < room → beyond ≡ []
   pub full : room ≡ 0 → length read ≡ limit
 
-itself : (left : Option (List ℕ)) → IfSome left (λ rest. left ≡ Some rest)
+pub itself : (left : Option (List ℕ)) → IfSome left (λ rest. left ≡ Some rest)
 itself None = tt
 itself (Some rest) = refl
 
@@ -203,7 +203,7 @@ reading_stops why schema pending front within room a b c i j k before now then n
     let more = (stops.cut_is beyond).0 in
     first_runs why schema (r.read ++ front) (r.whole.pieces ++ stops.pieces) more a c i k before next
     (ap (λ f. cut (r.read ++ f)) (sym (take-append-drop within front)) ∙ r.whole.cut_is (take within front ++ beyond) ∙ ap (λ p. r.whole.pieces ++ cut p) (sym (append_assoc pending (take within front) beyond)) ∙ ap (λ p. r.whole.pieces ++ p) (stops.cut_is beyond).1
-        ∙ sym (append_assoc r.whole.pieces stops.pieces more))
+    ∙ sym (append_assoc r.whole.pieces stops.pieces more))
     (more_source before.left now.left next.left r.read front front refl (within_source longest_input schema pending room a b i j before now some r)
     (subst (λ (l : Option (List ℕ)). IfSome l (λ rest. now.left ≡ Some (front ++ rest))) (sym left_is) front_read))
     (pieces_more (cuts why) schema r.whole.pieces stops.pieces a b c i j k before then next (takes_still schema (filled r.whole.pieces) a b i j before now then r.whole.takes (ap (λ (x : Seen). x.taken) only)) stops.takes)

@@ -1,5 +1,5 @@
 -- In a legal history a greeting replies to each greeting, and to no operation by itself.
-use Rattle.std.proofs.Common.{◌≡◌, ℕ, List, [], ◌∷◌, ◌++◌, Bool, true, false, refl, sym, ◌∙◌, subst, Option, Some, None, inl, inr, ◌⊎◌}
+use Rattle.std.proofs.Common.{◌≡◌, ℕ, List, [], ◌∷◌, ◌++◌, Bool, true, false, refl, subst, Option, Some, None, inl, inr}
 use Rattle.std.specs.Prelude.{Result, Ok, Err}
 use Rattle.qe_base.specs.Schemas.{Schema}
 use Rattle.qe_base.specs.declared.answer.Answer.{Answer}

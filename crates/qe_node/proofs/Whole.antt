@@ -1,5 +1,5 @@
 -- A run behind its greeting, and the whole of it.
-use Rattle.std.proofs.Common.{◌≡◌, ℕ, List, [], ◌∷◌, ◌++◌, refl, sym, subst, Option, Some, None, IfSome}
+use Rattle.std.proofs.Common.{◌≡◌, ℕ, [], refl, subst}
 use Rattle.qe_base.specs.Outside.{Seen}
 use Rattle.qe_base.specs.Schemas.{Schema}
 use Rattle.qe_history.specs.Exchange.{history_of}
@@ -11,14 +11,11 @@ use Rattle.qe_node.specs.Taking.{RunsOn}
 use Rattle.qe_node.specs.declared.LinesEnd.{LinesEnd}
 use Rattle.qe_node.specs.declared.LinesEnd.TheVariants as ends
 use Rattle.qe_node.proofs.Led.{leads_none}
+use Rattle.qe_node.proofs.Reading.{itself}
 use Rattle.qe_node.proofs.Wrote.{appends_nothing}
 use Rattle.qe_session.specs.Standing.{StandsFor}
 use Rattle.qe_view.specs.Attached.{Connected}
 use Rattle.qe_view.specs.Calls.{CallCounts, MakesAtMost}
-
-itself : (left : Option (List ℕ)) → IfSome left (λ rest. left ≡ Some rest)
-itself None = tt
-itself (Some rest) = refl
 
 -- memory was short before anything was read
 runs_short : (schema : Schema) (below : Connected) (place : ℕ) (before : Seen) → RunsOn ends.Memory schema below below place place before before

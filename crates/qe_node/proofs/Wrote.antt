@@ -9,7 +9,7 @@ use Rattle.qe_base.specs.Schemas.{Schema}
 use Rattle.qe_base.specs.declared.outside.Failed.{Failed}
 use Rattle.qe_history.specs.Exchange.{LineOutcome, bytes_of, outcome_line}
 use Rattle.qe_node.specs.Port.{Appends, AppendsPart, WritesAll, Wrote}
-use Rattle.qe_node.specs.Run.{AllWritten, LastCut}
+use Rattle.qe_node.specs.Run.{AllWritten}
 use Rattle.qe_node.specs.Taking.{WroteLines}
 
 -- some first part of the piece was taken, and the rest is to come
@@ -43,9 +43,11 @@ shorter part rest piece whole some = subst (λ p. length part < length p) whole 
 
 -- where the next write fails, not all was taken
 pub part_taken : (piece rest : List ℕ) (before now next : Seen) → IsWriting piece rest before now → 0 < length rest → next.taken ≡ now.taken → AppendsPart before next piece
-part_taken piece rest before now next writing some same =
-    (length writing.part, shorter writing.part rest piece writing.whole some,
-    subst (Appends before next) (sym (written_part writing.part rest piece writing.whole)) (subst (Appends before next) (append-nil writing.part) (appends_more before now next writing.part [] writing.taken (appends_nothing now next same))))
+part_taken piece rest before now next writing some same = (
+  length writing.part,
+  shorter writing.part rest piece writing.whole some,
+  subst (Appends before next) (sym (written_part writing.part rest piece writing.whole)) (subst (Appends before next) (append-nil writing.part) (appends_more before now next writing.part [] writing.taken (appends_nothing now next same))),
+)
 
 -- the next part is taken
 pub writing_more : (piece rest : List ℕ) (before now next : Seen) (count : ℕ) → IsWriting piece rest before now → Appends now next (take count rest) → IsWriting piece (drop count rest) before next

@@ -1,5 +1,5 @@
 -- Taking the lines of some bytes.
-use Rattle.std.specs.Prelude.{◌≡◌, ℕ, List, [], ◌∷◌, ◌++◌, Bool, true, false, not, ◌==◌, filter, IfSome, Some, Result, Ok, Err}
+use Rattle.std.specs.Prelude.{◌≡◌, ℕ, List, ◌++◌, Bool, true, false, not, ◌==◌, filter, IfSome, Some, Result, Ok, Err}
 use Rattle.std.specs.List.{list_any}
 use Rattle.qe_base.specs.Outside.{Seen}
 use Rattle.qe_base.specs.Schemas.{Schema}

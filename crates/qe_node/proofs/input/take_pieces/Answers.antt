@@ -1,10 +1,10 @@
-use Rattle.std.proofs.Common.{rules, arith, ◌≡◌, ◌<◌, ◌≤◌, ◌+◌, ◌-◌, ◌++◌, ◌∷◌, [], refl, sym, ap, subst, take, length, Some, false, true, true≢false, IfSome, is_ok, is_err}
+use Rattle.std.proofs.Common.{rules, arith, ◌≡◌, ◌<◌, ◌≤◌, ◌-◌, ◌++◌, ◌∷◌, [], refl, sym, ap, subst, Some, false, true, true≢false, IfSome, is_ok, is_err}
 use Rattle.std.proofs.lemmas.Bool.{false≢true}
 use Rattle.std.proofs.lemmas.Bool.Decides.{nat_tests}
 use Rattle.qe_base.specs.Causes.{Faults, HasCause}
 use Rattle.qe_base.specs.Outside.{Seen}
 use Rattle.qe_node.specs.Run.{longest_input}
-use Rattle.qe_node.specs.Taking.{RunsOn, Takes, TakesSome, TakesWhole, cuts, end_behind, end_by, filled, has_newline}
+use Rattle.qe_node.specs.Taking.{RunsOn, Takes, TakesSome, TakesWhole, cuts, filled, has_newline}
 use Rattle.qe_node.proofs.Causes.{cause_as, cause_more, cause_none, moved_read, moved_wrote}
 use Rattle.qe_node.proofs.Reading.{reading_fault, reading_last, reading_long, reading_more, reading_none, reading_stops}
 use Rattle.qe_node.proofs.input.take_pieces.Goals as goal

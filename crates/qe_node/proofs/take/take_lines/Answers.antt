@@ -1,8 +1,7 @@
-use Rattle.std.proofs.Common.{rules, arith, ◌≡◌, ◌+◌, ◌≤◌, ◌++◌, ◌∷◌, [], ◌∙◌, length, length-append, ap, false, refl, sym, subst}
+use Rattle.std.proofs.Common.{rules, arith, ◌≡◌, ◌+◌, ◌++◌, ◌∷◌, ◌∙◌, length, length-append, ap, false, refl, sym, subst}
 use Rattle.std.proofs.lemmas.Bool.{false≢true}
 use Rattle.qe_node.specs.Taking.{TakesSome, TakesWhole, cuts, has_newline}
 use Rattle.qe_node.specs.declared.take.Stop.{Stop}
-use Rattle.qe_node.specs.declared.take.Stop.TheVariants as stop
 use Rattle.qe_node.proofs.Causes.{wrote_as, wrote_more, wrote_none}
 use Rattle.qe_node.proofs.Taken.{on_err, short_append, some_line, some_short, whole_line, whole_none}
 use Rattle.qe_node.proofs.take.take_lines.Goals as goal
