@@ -1,2 +1,4 @@
+pub mod Port
 pub mod Run
 pub mod Serving
+pub mod Taking

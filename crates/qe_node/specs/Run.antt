@@ -1,10 +1,11 @@
 -- A run over the lines of an input: how it ends, and what was done and written by then.
-use Rattle.std.specs.Prelude.{◌≡◌, ℕ, ◌+◌, ◌<◌, ◌≤◌, List, [], ◌∷◌, ◌++◌, length, take, Some, IfSome, IsSomeAnd}
+use Rattle.std.specs.Prelude.{◌≡◌, ℕ, ◌+◌, ◌<◌, ◌≤◌, List, [], ◌∷◌, ◌++◌, length, take, Some, IfSome}
 use Rattle.qe_base.specs.Outside.{Seen}
 use Rattle.qe_base.specs.Schemas.{Schema}
 use Rattle.qe_history.specs.Exchange.{LineOutcome, ComeOf, bytes_of, history_of, outcome_line}
 use Rattle.qe_history.specs.Lines.{lines_of, whole_lines_of}
 use Rattle.qe_history.specs.State.{State}
+use Rattle.qe_node.specs.Port.{Appends}
 use Rattle.qe_node.specs.Serving.{lines_calls}
 use Rattle.qe_node.specs.declared.LinesEnd.{LinesEnd}
 use Rattle.qe_node.specs.declared.LinesEnd.TheVariants as ends
@@ -15,14 +16,6 @@ use Rattle.qe_view.specs.Calls.{MakesAtMost}
 -- how many bytes an input may have
 abbrev pub longest_input : ℕ
 longest_input = 67108864
-
--- the sink took these bytes more, where it tells
-abbrev pub Appends : Seen → Seen → List ℕ → Type 0
-Appends before after bytes = IfSome after.taken (λ all. IsSomeAnd before.taken (λ old. all ≡ old ++ bytes))
-
--- all but the bytes that come in and go out is as it was
-abbrev pub OnlyMoved : Seen → Seen → Type 0
-OnlyMoved before after = after ≡ record before { left = after.left; taken = after.taken; reads = after.reads; writes = after.writes }
 
 -- the outcomes are those of the first lines of the bytes
 abbrev pub AreFirst : Schema → List ℕ → List LineOutcome → Type 0

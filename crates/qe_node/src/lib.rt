@@ -1,6 +1,13 @@
 //! The lines of an input, answered by a core.
 #![tactic(auto)]
 
+mod answer;
+mod input;
+mod port;
+mod take;
+
+pub use input::lines;
+
 /// How the lines of an input ended.
 #[derive(Clone, Copy, Debug, PartialEq, Eq)]
 pub enum LinesEnd {

@@ -1,0 +1,10 @@
+pub mod Answered
+pub mod Causes
+pub mod Cutting
+pub mod Led
+pub mod Newlines
+pub mod Reading
+pub mod Replied
+pub mod Taken
+pub mod Whole
+pub mod Wrote
