@@ -2,8 +2,11 @@
 #![tactic(auto)]
 
 mod commands;
+mod print;
 mod real;
 mod refusal;
+mod run;
+mod status;
 mod words;
 
 pub use commands::{Ended, command, offline};
