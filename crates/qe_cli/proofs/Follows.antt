@@ -237,8 +237,8 @@ all_read : (left from : Option (List ℕ)) (read : List ℕ) → IfSome left (λ
 all_read None from read source none = tt
 all_read (Some l) from read source none = (none, source ∙ ap (λ x. Some (read ++ x)) none ∙ ap Some (append-nil read))
 
-pub answered : (words : List (List ℕ)) (before after : Seen) (given back : Connected) (same : Type 0) (status : ℕ) → Ends words before after given back same status → status ≡ 0 → AnswersRun words before after given back
-answered words before after given back same status r none = λ asks.
+pub answered : (words : List (List ℕ)) (before after : Seen) (given back : Connected) (same : Type 0) (status : ℕ) → Ends words before after given back same status → AnswersRun words before after given back status
+answered words before after given back same status r = λ none asks.
     let d = did command.Run words before after given back same status r none asks in
     let run : RunsOver lines.Done d.schema d.fetched d.mid given back = d.comes in
     let input = all_read d.mid.left d.fetched.left run.ran.read run.ran.source run.ran.ends.3 in
@@ -590,5 +590,5 @@ is_opened words before given back shut sure schema offer laid = by_why shut.why
         not_otherwise given schema other.2.0 laid (subst (λ s. KeepsOther given.keeps other.2.0 (laid_out s)) same other.2.1)
 
 -- a connector that can't fail, and keeps nothing or what is laid out so, is opened
-pub opens : (words : List (List ℕ)) (before after : Seen) (given back : Connected) (same : Type 0) (status : ℕ) → Ends words before after given back same status → given.faults.may_fail ≡ false → OpensSchema words before given status
-opens words before after given back same status r sure = λ schema offer laid six. is_opened words before given back (shut words before after given back same status r six) sure schema offer laid
+pub opens : (words : List (List ℕ)) (before after : Seen) (given back : Connected) (same : Type 0) (status : ℕ) → Ends words before after given back same status → OpensSchema words before given status
+opens words before after given back same status r = λ sure schema offer laid six. is_opened words before given back (shut words before after given back same status r six) sure schema offer laid

@@ -127,3 +127,7 @@ pub record Ends (words : List (List ℕ)) (before after : Seen) (given back : Co
   pub comes : Comes ended words before mid given back same
   pub prints : Prints (line_of ended) mid after
   pub causes : EndsFor ended before mid
+
+-- the same of the connector itself, by what is seen of it
+abbrev pub EndsOver : {C : Type 0} → (C → Connected) → List (List ℕ) → Seen → Seen → C → C → ℕ → Type 0
+EndsOver seen words before after given back status = Ends words before after (seen given) (seen back) (back ≡ given) status

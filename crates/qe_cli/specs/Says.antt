@@ -47,9 +47,13 @@ pub record AnswersAll (words : List (List ℕ)) (before after : Seen) (given bac
   pub written : Appends before after (bytes_of schema outcomes)
   pub stands : StandsFor schema back (first_state schema opened) (history_of outcomes)
 
--- so it is where the words are those of a run
-abbrev pub AnswersRun : List (List ℕ) → Seen → Seen → Connected → Connected → Type 0
-AnswersRun words before after given back = Asks command.Run words → AnswersAll words before after given back
+-- so it is at status 0 of a run
+abbrev pub AnswersRun : List (List ℕ) → Seen → Seen → Connected → Connected → ℕ → Type 0
+AnswersRun words before after given back status = status ≡ 0 → Asks command.Run words → AnswersAll words before after given back
+
+-- the same of the connector itself, by what is seen of it
+abbrev pub AnswersOver : {C : Type 0} → (C → Connected) → List (List ℕ) → Seen → Seen → C → C → ℕ → Type 0
+AnswersOver seen words before after given back status = AnswersRun words before after (seen given) (seen back) status
 
 -- the words are those of a run over a schema, and a connector is attached for that
 abbrev pub IsAttachedFor : List (List ℕ) → Seen → Connected → Type 0
@@ -107,6 +111,10 @@ pub record IsShut (words : List (List ℕ)) (before : Seen) (given back : Connec
   pub unopened : IsUnopened given back
   pub why : FailsToOpen given back ⊎ ((schema : Schema) × NamesSchema command.Run words before.files schema × IsLaidOtherwise schema given back)
 
+-- the same of the connector itself, by what is seen of it
+abbrev pub IsShutOver : {C : Type 0} → (C → Connected) → List (List ℕ) → Seen → C → C → Type 0
+IsShutOver seen words before given back = IsShut words before (seen given) (seen back)
+
 -- a steady host with the file has no fault
 abbrev pub FaultsOf : List (List ℕ) → Seen → ℕ → Type 0
 FaultsOf words before status = HasSchemaFile words before.files → status ≡ 4 → ⊥
@@ -119,9 +127,9 @@ GoesWell words status = (status ≡ 0) ⊎ ((status ≡ 5) ⊎ (((status ≡ 6) 
 abbrev pub AcceptsSchema : List (List ℕ) → Seen → ℕ → Type 0
 AcceptsSchema words before status = (schema : Schema) → Offers words before.files (λ text. HasSchema text schema) → GoesWell words status
 
--- where the file holds a schema, what keeps nothing or is laid out so is opened
+-- where the file holds a schema, a connector that can't fail, and keeps nothing or what is laid out so, is opened
 abbrev pub OpensSchema : List (List ℕ) → Seen → Connected → ℕ → Type 0
-OpensSchema words before given status = (schema : Schema) → Offers words before.files (λ text. HasSchema text schema) → IsLaidOut schema given → status ≡ 6 → ⊥
+OpensSchema words before given status = given.faults.may_fail ≡ false → (schema : Schema) → Offers words before.files (λ text. HasSchema text schema) → IsLaidOut schema given → status ≡ 6 → ⊥
 
 -- where the file holds a text that is to be refused it is, but for want of memory
 abbrev pub RefusesText : List (List ℕ) → Seen → ℕ → Type 0

@@ -1,11 +1,11 @@
 //! The commands of the engine.
-ghost use Rattle.std.specs.Prelude.{◌≡◌, ◌↔◌, None, IfErr, IfOk, false, map, string_bytes};
+ghost use Rattle.std.specs.Prelude.{◌≡◌, ◌↔◌, None, IfErr, IfOk, map, string_bytes};
 ghost use Rattle.qe_base.specs.Outside.{IsSteady};
 ghost use Rattle.qe_cli.specs.Asked.{ReadsAlone, command_of};
-ghost use Rattle.qe_cli.specs.Command.{Comes, Ends, SchemaComes};
+ghost use Rattle.qe_cli.specs.Command.{Comes, EndsOver, SchemaComes};
 ghost use Rattle.qe_cli.specs.Ends.{EndsFor};
 ghost use Rattle.qe_cli.specs.Refused.{HasSchema, Unread};
-ghost use Rattle.qe_cli.specs.Says.{AcceptsSchema, AnswersRun, FaultsOf, HasFault, IsApart, IsCalm, IsLong, IsShut, IsUnread, LaysOut, Opens, OpensSchema, RefusesText, SaysWhy, Validates};
+ghost use Rattle.qe_cli.specs.Says.{AcceptsSchema, AnswersOver, FaultsOf, HasFault, IsApart, IsCalm, IsLong, IsShutOver, IsUnread, LaysOut, Opens, OpensSchema, RefusesText, SaysWhy, Validates};
 ghost use Rattle.qe_node.specs.Run.{OnlyMoved};
 
 use crate::print::{print_end, say, say_layout};
@@ -93,12 +93,12 @@ fn offline_over<C: Connector, H: Host>(
 ) -> (u8, C)
     requires { (C.seen connector).attached ≡ None }
     // How it ended: by then so much was read and written, and the line of the end after that.
-    ensures ends { Ends (map string_bytes words.now) (H.seen host.old) (H.seen host.new) (C.seen connector) (C.seen result.1) (result.1 ≡ connector) result.0 }
+    ensures ends { EndsOver C.seen (map string_bytes words.now) (H.seen host.old) (H.seen host.new) connector result.1 result.0 }
 
     // What the status says.
     ensures usage { (result.0 ≡ 2) ↔ (command_of (map string_bytes words.now) ≡ None) }
     ensures refused { result.0 ≡ 3 → SaysWhy (map string_bytes words.now) (H.seen host.old) (H.seen host.new) }
-    ensures answered { result.0 ≡ 0 → AnswersRun (map string_bytes words.now) (H.seen host.old) (H.seen host.new) (C.seen connector) (C.seen result.1) }
+    ensures answered { AnswersOver C.seen (map string_bytes words.now) (H.seen host.old) (H.seen host.new) connector result.1 result.0 }
     ensures validated { result.0 ≡ 0 → Validates (map string_bytes words.now) (H.seen host.old) (H.seen host.new) }
     ensures laid { result.0 ≡ 0 → LaysOut (map string_bytes words.now) (H.seen host.old) (H.seen host.new) }
     ensures opened { result.0 ≡ 0 → Opens (map string_bytes words.now) (H.seen host.old) (C.seen result.1) }
@@ -110,11 +110,11 @@ fn offline_over<C: Connector, H: Host>(
     ensures calm { result.0 ≡ 0 → IsCalm (H.seen host.old) (H.seen host.new) }
     ensures fault { result.0 ≡ 4 → HasFault (H.seen host.old) (H.seen host.new) }
     ensures steady { IsSteady (H.seen host.old) → FaultsOf (map string_bytes words.now) (H.seen host.old) result.0 }
-    ensures shut { result.0 ≡ 6 → IsShut (map string_bytes words.now) (H.seen host.old) (C.seen connector) (C.seen result.1) }
+    ensures shut { result.0 ≡ 6 → IsShutOver C.seen (map string_bytes words.now) (H.seen host.old) connector result.1 }
 
     // There the text of the file decides, but for want of memory and for the connector of a run.
     ensures accepts { IsSteady (H.seen host.old) → AcceptsSchema (map string_bytes words.now) (H.seen host.old) result.0 }
-    ensures opens { (C.seen connector).faults.may_fail ≡ false → OpensSchema (map string_bytes words.now) (H.seen host.old) (C.seen connector) result.0 }
+    ensures opens { OpensSchema (map string_bytes words.now) (H.seen host.old) (C.seen connector) result.0 }
     ensures refuses { IsSteady (H.seen host.old) → RefusesText (map string_bytes words.now) (H.seen host.old) result.0 }
 {
     let (end, back) = carry_out(alloc, words, connector, host);
@@ -142,17 +142,17 @@ pub fn offline<H: Host>(
     host: &mut H,
     memory: Box<dyn Connector + Send>,
 ) -> Ended
-    requires { (Kept.seen memory).attached ≡ None }
+    requires { (⟦<Kept as Connector>⟧.seen memory).attached ≡ None }
     // How it ended: by then so much was read and written, and the line of the end after that.
-    ensures ends { Ends (map string_bytes words.now) (H.seen host.old) (H.seen host.new) (Kept.seen memory) (Kept.seen result.memory) (result.memory ≡ memory) result.status }
+    ensures ends { EndsOver ⟦<Kept as Connector>⟧.seen (map string_bytes words.now) (H.seen host.old) (H.seen host.new) memory result.memory result.status }
 
     // What the status says.
     ensures usage { (result.status ≡ 2) ↔ (command_of (map string_bytes words.now) ≡ None) }
     ensures refused { result.status ≡ 3 → SaysWhy (map string_bytes words.now) (H.seen host.old) (H.seen host.new) }
-    ensures answered { result.status ≡ 0 → AnswersRun (map string_bytes words.now) (H.seen host.old) (H.seen host.new) (Kept.seen memory) (Kept.seen result.memory) }
+    ensures answered { AnswersOver ⟦<Kept as Connector>⟧.seen (map string_bytes words.now) (H.seen host.old) (H.seen host.new) memory result.memory result.status }
     ensures validated { result.status ≡ 0 → Validates (map string_bytes words.now) (H.seen host.old) (H.seen host.new) }
     ensures laid { result.status ≡ 0 → LaysOut (map string_bytes words.now) (H.seen host.old) (H.seen host.new) }
-    ensures opened { result.status ≡ 0 → Opens (map string_bytes words.now) (H.seen host.old) (Kept.seen result.memory) }
+    ensures opened { result.status ≡ 0 → Opens (map string_bytes words.now) (H.seen host.old) (⟦<Kept as Connector>⟧.seen result.memory) }
     ensures still { ReadsAlone (map string_bytes words.now) → IsUnread (H.seen host.old) (H.seen host.new) }
     ensures apart { IsApart (map string_bytes words.now) result.status → result.memory ≡ memory }
     ensures limit { result.status ≡ 7 → IsLong (H.seen host.old) (H.seen host.new) }
@@ -161,11 +161,11 @@ pub fn offline<H: Host>(
     ensures calm { result.status ≡ 0 → IsCalm (H.seen host.old) (H.seen host.new) }
     ensures fault { result.status ≡ 4 → HasFault (H.seen host.old) (H.seen host.new) }
     ensures steady { IsSteady (H.seen host.old) → FaultsOf (map string_bytes words.now) (H.seen host.old) result.status }
-    ensures shut { result.status ≡ 6 → IsShut (map string_bytes words.now) (H.seen host.old) (Kept.seen memory) (Kept.seen result.memory) }
+    ensures shut { result.status ≡ 6 → IsShutOver ⟦<Kept as Connector>⟧.seen (map string_bytes words.now) (H.seen host.old) memory result.memory }
 
     // There the text of the file decides, but for want of memory and for the connector of a run.
     ensures accepts { IsSteady (H.seen host.old) → AcceptsSchema (map string_bytes words.now) (H.seen host.old) result.status }
-    ensures opens { (Kept.seen memory).faults.may_fail ≡ false → OpensSchema (map string_bytes words.now) (H.seen host.old) (Kept.seen memory) result.status }
+    ensures opens { OpensSchema (map string_bytes words.now) (H.seen host.old) (⟦<Kept as Connector>⟧.seen memory) result.status }
     ensures refuses { IsSteady (H.seen host.old) → RefusesText (map string_bytes words.now) (H.seen host.old) result.status }
 {
     let (status, memory) = offline_over(alloc, words, memory, host);
@@ -179,17 +179,17 @@ pub fn command<H: Host>(
     host: &mut H,
     memory: Box<dyn Connector + Send>,
 ) -> Ended
-    requires { (Kept.seen memory).attached ≡ None }
+    requires { (⟦<Kept as Connector>⟧.seen memory).attached ≡ None }
     // How it ended: by then so much was read and written, and the line of the end after that.
-    ensures ends { Ends (map string_bytes words.now) (H.seen host.old) (H.seen host.new) (Kept.seen memory) (Kept.seen result.memory) (result.memory ≡ memory) result.status }
+    ensures ends { EndsOver ⟦<Kept as Connector>⟧.seen (map string_bytes words.now) (H.seen host.old) (H.seen host.new) memory result.memory result.status }
 
     // What the status says.
     ensures usage { (result.status ≡ 2) ↔ (command_of (map string_bytes words.now) ≡ None) }
     ensures refused { result.status ≡ 3 → SaysWhy (map string_bytes words.now) (H.seen host.old) (H.seen host.new) }
-    ensures answered { result.status ≡ 0 → AnswersRun (map string_bytes words.now) (H.seen host.old) (H.seen host.new) (Kept.seen memory) (Kept.seen result.memory) }
+    ensures answered { AnswersOver ⟦<Kept as Connector>⟧.seen (map string_bytes words.now) (H.seen host.old) (H.seen host.new) memory result.memory result.status }
     ensures validated { result.status ≡ 0 → Validates (map string_bytes words.now) (H.seen host.old) (H.seen host.new) }
     ensures laid { result.status ≡ 0 → LaysOut (map string_bytes words.now) (H.seen host.old) (H.seen host.new) }
-    ensures opened { result.status ≡ 0 → Opens (map string_bytes words.now) (H.seen host.old) (Kept.seen result.memory) }
+    ensures opened { result.status ≡ 0 → Opens (map string_bytes words.now) (H.seen host.old) (⟦<Kept as Connector>⟧.seen result.memory) }
     ensures still { ReadsAlone (map string_bytes words.now) → IsUnread (H.seen host.old) (H.seen host.new) }
     ensures apart { IsApart (map string_bytes words.now) result.status → result.memory ≡ memory }
     ensures limit { result.status ≡ 7 → IsLong (H.seen host.old) (H.seen host.new) }
@@ -198,11 +198,11 @@ pub fn command<H: Host>(
     ensures calm { result.status ≡ 0 → IsCalm (H.seen host.old) (H.seen host.new) }
     ensures fault { result.status ≡ 4 → HasFault (H.seen host.old) (H.seen host.new) }
     ensures steady { IsSteady (H.seen host.old) → FaultsOf (map string_bytes words.now) (H.seen host.old) result.status }
-    ensures shut { result.status ≡ 6 → IsShut (map string_bytes words.now) (H.seen host.old) (Kept.seen memory) (Kept.seen result.memory) }
+    ensures shut { result.status ≡ 6 → IsShutOver ⟦<Kept as Connector>⟧.seen (map string_bytes words.now) (H.seen host.old) memory result.memory }
 
     // There the text of the file decides, but for want of memory and for the connector of a run.
     ensures accepts { IsSteady (H.seen host.old) → AcceptsSchema (map string_bytes words.now) (H.seen host.old) result.status }
-    ensures opens { (Kept.seen memory).faults.may_fail ≡ false → OpensSchema (map string_bytes words.now) (H.seen host.old) (Kept.seen memory) result.status }
+    ensures opens { OpensSchema (map string_bytes words.now) (H.seen host.old) (⟦<Kept as Connector>⟧.seen memory) result.status }
     ensures refuses { IsSteady (H.seen host.old) → RefusesText (map string_bytes words.now) (H.seen host.old) result.status }
 {
     offline(alloc, words, host, memory)
