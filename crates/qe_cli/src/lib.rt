@@ -10,7 +10,7 @@ mod status;
 mod words;
 
 pub use commands::{Ended, command, offline};
-pub use real::StdHost;
+pub use real::{StdHost, refuse_words};
 pub use refusal::Refusal;
 
 /// How a command ends.

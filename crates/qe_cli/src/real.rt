@@ -1,5 +1,5 @@
 //! The system's own input, output and files.
-ghost use Rattle.std.specs.Prelude.{◌≡◌};
+ghost use Rattle.std.specs.Prelude.{◌≡◌, ◌≢◌};
 
 use qe_base::{Bytes, Failed, FetchFault, Host, Outer, Sink, Source};
 use std::fs::File;
@@ -85,4 +85,18 @@ impl Host for StdHost {
             }
         }
     }
+}
+
+/// Says why no command is carried out, and gives the status: memory is short, or the words are no
+/// texts.
+pub fn refuse_words(rt: &HostRuntime, why: ErrorKind) -> u8
+    ensures memory { why ≡ ErrorKind.OutOfMemory → result ≡ 5 }
+    ensures usage { why ≢ ErrorKind.OutOfMemory → result ≡ 2 }
+{
+    let (line, status) = match why {
+        ErrorKind::OutOfMemory => ("memory", 5),
+        _ => ("usage", 2),
+    };
+    let _ = rt.println(line);
+    status
 }
