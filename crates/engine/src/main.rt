@@ -2,9 +2,7 @@
 //! and files.
 #![tactic(auto)]
 
-ghost use Rattle.std.specs.Prelude.{◌≡◌, ◌≢◌};
-
-use qe_cli::{StdHost, command};
+use qe_cli::{StdHost, command, refuse_words};
 use qe_mem::MemConnector;
 use std::env;
 use std::io::{self, ErrorKind};
@@ -15,30 +13,16 @@ fn words(rt: &HostRuntime) -> io::Result<Vec<String>> {
     Ok(env::args(rt)?.collect(rt.alloc())?)
 }
 
-/// Says why no command is carried out, and gives the status: memory is short, or the words are no
-/// texts.
-fn refuse(rt: &HostRuntime, why: ErrorKind) -> u8
-    ensures memory { why ≡ ErrorKind.OutOfMemory → result ≡ 5 }
-    ensures usage { why ≢ ErrorKind.OutOfMemory → result ≡ 2 }
-{
-    let (line, status) = match why {
-        ErrorKind::OutOfMemory => ("memory", 5),
-        _ => ("usage", 2),
-    };
-    let _ = rt.println(line);
-    status
-}
-
 fn main(rt: HostRuntime) -> ExitCode {
     let words = match words(&rt) {
         Ok(words) => words,
-        Err(error) => return ExitCode::from(refuse(&rt, error.kind())),
+        Err(error) => return ExitCode::from(refuse_words(&rt, error.kind())),
     };
     let Ok(tables) = MemConnector::new(rt.alloc(), &[]) else {
-        return ExitCode::from(refuse(&rt, ErrorKind::OutOfMemory));
+        return ExitCode::from(refuse_words(&rt, ErrorKind::OutOfMemory));
     };
     let Ok(memory) = Box::new(rt.alloc(), tables) else {
-        return ExitCode::from(refuse(&rt, ErrorKind::OutOfMemory));
+        return ExitCode::from(refuse_words(&rt, ErrorKind::OutOfMemory));
     };
     let ended = command(rt.alloc(), words.as_slice(), &mut StdHost::new(rt), memory);
     ExitCode::from(ended.status)

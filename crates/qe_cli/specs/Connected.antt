@@ -1,37 +1,43 @@
--- What contracts see of a connector that is handed in and back.
-use Rattle.std.specs.Prelude.{◌≡◌, ℕ, ◌≤◌, Bool, not, true, false, Option, option_map, IfSome}
+-- What a run does with the connector that is handed in.
+use Rattle.std.specs.Prelude.{◌≡◌, ◌⊎◌, [], Option, Some, None, IfSome, IsSomeAnd, List, ℕ, Result}
+use Rattle.qe_base.specs.Causes.{HasCause}
 use Rattle.qe_base.specs.Schemas.{Schema}
-use Rattle.qe_schema.specs.Tables.{Tables}
-use Rattle.qe_view.specs.Calls.{CallCounts}
-use Rattle.qe_history.specs.State.{State, opening}
-use Rattle.qe_desk.specs.Stands.{StandsForState}
-use Rattle.qe_view.specs.Attached.{Kept, kept_tables}
+use Rattle.qe_view.specs.Attached.{Attached, Attaches, Connected, HasText, Kept, KeepsOther}
+use Rattle.qe_view.specs.LayoutText.{layout_text}
+use Rattle.qe_view.specs.Layouts.{layout_of}
+use Rattle.qe_view.specs.declared.changes.AttachFault.{AttachFault}
 
--- What it keeps before it is attached and the tables after that, where it tells; how often it failed, how often
--- a kept row didn't fit, whether a call may fail, and the calls made of it.
-pub record Connected : Type 0 where
-  pub keeps : Option (Option Kept)
-  pub told : Option Tables
-  pub faults : ℕ
-  pub misfits : ℕ
-  pub may_fail : Bool
-  pub calls : CallCounts
+-- attaching it at the place without a name, with the layout of a schema, left it so with this result
+abbrev pub AttachesFor : Schema → Connected → Connected → Result (Unit {0}) AttachFault → Type 0
+AttachesFor schema given back result = Attaches [] (layout_of schema) given back result
 
-abbrev pub connected : Option (Option Kept) → Option Tables → ℕ → ℕ → Bool → CallCounts → Connected
-connected keeps told faults misfits may_fail calls = record { keeps = keeps; told = told; faults = faults; misfits = misfits; may_fail = may_fail; calls = calls }
+-- it is attached at the place without a name, with the layout of a schema
+abbrev pub IsAttached : Schema → Connected → Type 0
+IsAttached schema connected = connected.attached ≡ Some (record { place = []; layout = layout_of schema })
 
--- the state in which a run over a connector begins
-abbrev pub first_state : Connected → Schema → State
-first_state given schema = opening schema (option_map kept_tables given.keeps) given.faults (not given.may_fail)
+-- nothing was done with it, or it was only attached, if that was answered
+abbrev pub IsIdle : Schema → Connected → Connected → Type 0
+IsIdle schema given back = (back ≡ given) ⊎ ((result : Result (Unit {0}) AttachFault) × AttachesFor schema given back result)
 
--- a connector stands for a state of this schema
-abbrev pub StandsFor : Schema → Connected → State → Type 0
-StandsFor schema connector state = StandsForState schema connector.told connector.faults connector.may_fail state
-
--- It isn't attached: it keeps what it kept, and got no other call.
+-- It isn't attached: it keeps what it kept, and got no call that is counted.
 pub record IsUnopened (given back : Connected) : Type 0 where
+  pub attached : back.attached ≡ None
   pub keeps : back.keeps ≡ given.keeps
-  pub later : given.faults ≤ back.faults
-  pub sure : given.may_fail ≡ false → (back.may_fail ≡ false) × (back.faults ≡ given.faults)
   pub misfits : back.misfits ≡ given.misfits
   pub calls : back.calls ≡ given.calls
+
+-- the connector failed when it was to be attached, which one that can't fail never does
+abbrev pub FailsToOpen : Connected → Connected → Type 0
+FailsToOpen given back = HasCause given.faults back.faults (Unit {0})
+
+-- the layout of a schema, as text
+abbrev pub laid_out : Schema → List ℕ
+laid_out schema = layout_text (layout_of schema)
+
+-- what the connector keeps, where it is told, is laid out in another way; and it didn't fail
+abbrev pub IsLaidOtherwise : Schema → Connected → Connected → Type 0
+IsLaidOtherwise schema given back = (kept : List ℕ) × KeepsOther given.keeps kept (laid_out schema) × HasCause given.faults back.faults ⊥
+
+-- the connector keeps nothing or what is laid out so, and tells that
+abbrev pub IsLaidOut : Schema → Connected → Type 0
+IsLaidOut schema given = IsSomeAnd given.keeps (λ kept. HasText kept (laid_out schema))

@@ -2,12 +2,15 @@
 #![tactic(auto)]
 
 mod commands;
+mod print;
 mod real;
 mod refusal;
+mod run;
+mod status;
 mod words;
 
 pub use commands::{Ended, command, offline};
-pub use real::StdHost;
+pub use real::{StdHost, refuse_words};
 pub use refusal::Refusal;
 
 /// How a command ends.

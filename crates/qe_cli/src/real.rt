@@ -1,7 +1,7 @@
 //! The system's own input, output and files.
-ghost use Rattle.std.specs.Prelude.{◌≡◌, None, true, false};
+ghost use Rattle.std.specs.Prelude.{◌≡◌, ◌≢◌};
 
-use qe_base::{Bytes, Failed, FetchFault, Host, Sink, Source};
+use qe_base::{Bytes, Failed, FetchFault, Host, Outer, Sink, Source};
 use std::fs::File;
 use std::io::{self, ErrorKind, Read, Write};
 
@@ -16,11 +16,11 @@ pub struct StdHost {
 }
 
 impl StdHost {
-    ghost use Rattle.qe_cli.specs.RealHost.{fault_counts};
+    ghost use Rattle.qe_cli.specs.RealHost.{host_seen, nothing_failed};
 
     /// No call has failed yet.
     pub fn new(rt: HostRuntime) -> StdHost
-        ensures { fault_counts result ≡ (0, 0, 0) }
+        ensures { host_seen result ≡ nothing_failed }
     {
         StdHost {
             rt,
@@ -31,15 +31,13 @@ impl StdHost {
     }
 }
 
+impl Outer for StdHost {
+    ghost use Rattle.qe_cli.specs.RealHost.{host_seen};
+
+    ghost seen = { host_seen };
+}
+
 impl Source for StdHost {
-    ghost left = { λ _. None };
-
-    ghost read_faults = { λ host. host.read_faults };
-
-    ghost read_may_fail = { λ _. true };
-
-    ghost same_but_input = { λ before after. (after.write_faults ≡ before.write_faults) × (after.fetch_faults ≡ before.fetch_faults) };
-
     /// Reads once, and nothing ahead, so it has a line of a terminal as soon as that is typed. An
     /// interrupted read is a fault.
     fn read(&mut self, into: &mut [u8]) -> Result<usize, Failed> {
@@ -54,14 +52,6 @@ impl Source for StdHost {
 }
 
 impl Sink for StdHost {
-    ghost taken = { λ _. None };
-
-    ghost write_faults = { λ host. host.write_faults };
-
-    ghost write_may_fail = { λ _. true };
-
-    ghost same_but_output = { λ before after. (after.read_faults ≡ before.read_faults) × (after.fetch_faults ≡ before.fetch_faults) };
-
     /// Writes once, past no buffer, so what it takes has left. An interrupted write, and one that
     /// takes nothing of a piece that isn't empty, is a fault.
     fn write(&mut self, piece: &[u8]) -> Result<usize, Failed> {
@@ -84,14 +74,6 @@ fn front_of(rt: &HostRuntime, name: &str, most: usize) -> io::Result<Vec<u8>> {
 }
 
 impl Host for StdHost {
-    ghost use Rattle.std.proofs.Common.{rules};
-
-    ghost files = { λ _. None };
-
-    ghost fetch_faults = { λ host. host.fetch_faults };
-
-    ghost is_steady = { λ _. false };
-
     /// Opens the file, reads its front and closes it.
     fn fetch(&mut self, name: &str, most: usize) -> Result<Bytes, FetchFault> {
         match front_of(&self.rt, name, most) {
@@ -103,10 +85,18 @@ impl Host for StdHost {
             }
         }
     }
+}
 
-    ghost input_apart = { λ a b same. Prim.search rules };
-
-    ghost output_apart = { λ a b same. Prim.search rules };
-
-    ghost steady_is_sure = { λ host steady. Prim.search rules };
+/// Says why no command is carried out, and gives the status: memory is short, or the words are no
+/// texts.
+pub fn refuse_words(rt: &HostRuntime, why: ErrorKind) -> u8
+    ensures memory { why ≡ ErrorKind.OutOfMemory → result ≡ 5 }
+    ensures usage { why ≢ ErrorKind.OutOfMemory → result ≡ 2 }
+{
+    let (line, status) = match why {
+        ErrorKind::OutOfMemory => ("memory", 5),
+        _ => ("usage", 2),
+    };
+    let _ = rt.println(line);
+    status
 }
