@@ -1,3 +1,4 @@
+pub mod Joined
 pub mod Port
 pub mod Run
 pub mod Serving

@@ -3,10 +3,12 @@
 
 mod answer;
 mod input;
+mod joined;
 mod port;
 mod take;
 
 pub use input::lines;
+pub use joined::run_lines;
 
 /// How the lines of an input ended.
 #[derive(Clone, Copy, Debug, PartialEq, Eq)]
