@@ -1,34 +1,17 @@
 //! Writing texts and lines.
-ghost use Rattle.std.specs.Prelude.{◌≡◌, ◌⊎◌, IfOk, IsErr, OnErr, OnOk, true};
-ghost use Rattle.qe_base.specs.Causes.{HasCause};
-ghost use Rattle.qe_base.specs.Outside.{OnlyWrote};
-ghost use Rattle.qe_node.specs.Port.{Appends, OnlyMoved};
+ghost use Rattle.std.specs.Prelude.{◌≡◌, ◌⊎◌, IfOk, true};
+ghost use Rattle.qe_node.specs.Port.{OnlyMoved};
 ghost use Rattle.qe_cli.specs.Command.{LayoutComes, TextComes};
 ghost use Rattle.qe_cli.specs.Connected.{laid_out};
 ghost use Rattle.qe_cli.specs.Ends.{EndsFor, Prints, has_made_line, line_of};
 
 use crate::End;
-use qe_base::{Failed, Host};
+use qe_base::Host;
+use qe_node::write_all;
 use qe_schema::Schema;
 use qe_text::{Memory, Text};
 use qe_view::Layout;
 use std::alloc::Global;
-
-/// Writes the whole piece, or its front up to a fault.
-fn write_all<H: Host>(host: &mut H, piece: &[u8]) -> Result<(), Failed>
-    ensures ok { OnOk result (Appends (H.seen host.old) (H.seen host.new) piece.now) }
-    ensures err { OnErr result (AppendsPart (H.seen host.old) (H.seen host.new) piece.now) }
-    ensures cause { HasCause (H.seen host.old).writes (H.seen host.new).writes (IsErr result) }
-    ensures others { OnlyWrote (H.seen host.old) (H.seen host.new) }
-{
-    let mut rest = piece;
-    'pieces: while !rest.is_empty() {
-        let count = host.write(rest)?;
-        let (_, later) = rest.split_at(count);
-        rest = later;
-    }
-    Ok(())
-}
 
 /// Writes a text.
 pub fn say<H: Host>(host: &mut H, text: &[u8]) -> End
