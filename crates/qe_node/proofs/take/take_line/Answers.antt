@@ -1,4 +1,4 @@
-use Rattle.std.proofs.Common.{ℕ, List, ◌∷◌, [], ◌∙◌, false, is_err, refl, subst, sym}
+use Rattle.std.proofs.Common.{ℕ, List, ◌∙◌, false, is_err, refl, subst, sym}
 use Rattle.qe_node.specs.Taking.{Takes}
 use Rattle.qe_node.proofs.Cutting.{filled_blank, filled_other}
 use Rattle.qe_node.proofs.Taken.{takes_none}
