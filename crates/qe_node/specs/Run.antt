@@ -55,3 +55,7 @@ pub record Ran (end : LinesEnd) (schema : Schema) (opening : State) (before afte
   pub ends : EndsWith end schema read outcomes before after
   pub stands : StandsFor schema below opening (history_of outcomes)
   pub calls : MakesAtMost (lines_calls schema outcomes) given.calls below.calls
+
+-- a run from each opening that a core without history stood for
+abbrev pub RunsFromAny : LinesEnd → Schema → Seen → Seen → Connected → Connected → Type 0
+RunsFromAny end schema before after given below = (opening : State) → StandsFor schema given opening [] → Ran end schema opening before after given below

@@ -24,6 +24,10 @@ abbrev pub lines_calls : Schema → List LineOutcome → CallCounts
 lines_calls schema [] = no_calls
 lines_calls schema (outcome ∷ outcomes) = both_calls (line_calls schema outcome) (lines_calls schema outcomes)
 
+-- what stood for no history stands for that of the greeting
+abbrev pub Greets : Schema → Connected → Connected → Type 0
+Greets schema below after = (opening : State) → StandsFor schema below opening [] → StandsFor schema after opening (history_of [])
+
 -- It stands for the history of some outcomes, which has this length.
 pub record IsStood (schema : Schema) (below : Connected) (place : ℕ) : Type 0 where
   pub opening : State

@@ -12,6 +12,7 @@ use Rattle.qe_node.specs.declared.LinesEnd.{LinesEnd}
 use Rattle.qe_node.specs.declared.LinesEnd.TheVariants as ends
 use Rattle.qe_node.specs.declared.take.Stop.{Stop}
 use Rattle.qe_node.specs.declared.take.Stop.TheVariants as stop
+use Rattle.qe_session.specs.declared.machine.Core.{Core}
 use Rattle.qe_view.specs.Attached.{Connected}
 
 abbrev pub has_newline : List ℕ → Bool
@@ -49,6 +50,16 @@ pub record TakesSome (short : Bool) (schema : Schema) (bytes : List ℕ) (below 
   pub pieces : List (List ℕ)
   pub cut_is : (later : List ℕ) → (more : List (List ℕ)) × (cut (bytes ++ later) ≡ pieces ++ more)
   pub takes : Takes short schema (filled pieces) below after place next before now
+
+-- the same of a core and something outside, by what is seen of them
+abbrev pub TakesBy : {C P : Type 0} → (C → Connected) → (P → Seen) → Bool → Schema → List (List ℕ) → Core C → Core C → ℕ → ℕ → P → P → Type 0
+TakesBy kept seen short schema lines core after place next port now = Takes short schema lines (kept core.view.below) (kept after.view.below) place next (seen port) (seen now)
+
+abbrev pub WholeBy : {C P : Type 0} → (C → Connected) → (P → Seen) → Schema → List ℕ → List ℕ → Core C → Core C → ℕ → ℕ → P → P → Type 0
+WholeBy kept seen schema bytes pending core after place next port now = TakesWhole schema bytes pending (kept core.view.below) (kept after.view.below) place next (seen port) (seen now)
+
+abbrev pub SomeBy : {C P : Type 0} → (C → Connected) → (P → Seen) → Stop → Schema → List ℕ → Core C → Core C → ℕ → ℕ → P → P → Type 0
+SomeBy kept seen why schema bytes core after place next port now = TakesSome (cuts why) schema bytes (kept core.view.below) (kept after.view.below) place next (seen port) (seen now)
 
 -- A run behind the greeting: the bytes that were read, and the outcomes of the lines that were answered.
 pub record RunsOn (end : LinesEnd) (schema : Schema) (below after : Connected) (place next : ℕ) (before now : Seen) : Type 0 where

@@ -1,12 +1,10 @@
 //! Answering one line.
 ghost use Rattle.std.specs.Prelude.{◌≡◌, ◌+◌, ◌<◌, ◌≤◌, ◌^◌, ◌++◌, ◌∷◌, [], true, IsErr, is_err};
-ghost use Rattle.qe_history.specs.Exchange.{history_of};
-ghost use Rattle.qe_history.specs.State.{State};
 ghost use Rattle.qe_node.specs.Port.{WritesAll, Wrote};
-ghost use Rattle.qe_node.specs.Serving.{Enters, fault_text, text_or_memory};
-ghost use Rattle.qe_node.specs.Taking.{Takes};
+ghost use Rattle.qe_node.specs.Serving.{Enters, Greets, fault_text, text_or_memory};
+ghost use Rattle.qe_node.specs.Taking.{TakesBy};
 ghost use Rattle.qe_session.specs.Handling.{is_handled};
-ghost use Rattle.qe_session.specs.Standing.{Ready, StandsFor};
+ghost use Rattle.qe_session.specs.Standing.{Ready};
 
 use crate::port::write_all;
 use qe_base::{Event, Failed, Op, Outside, Sink, Source, What};
@@ -20,7 +18,7 @@ use std::alloc::Global;
 /// Greets at place 0.
 pub fn greet<C: Connector>(core: &mut Core<C>)
     requires ready { Ready C.seen core.old }
-    ensures stands { (opening : State) → StandsFor core.old.schema (C.seen core.old.view.below) opening [] → StandsFor core.old.schema (C.seen core.new.view.below) opening (history_of []) }
+    ensures stands { Greets core.old.schema (C.seen core.old.view.below) (C.seen core.new.view.below) }
     ensures calls { (C.seen core.new.view.below).calls ≡ (C.seen core.old.view.below).calls }
     ensures attached { (C.seen core.new.view.below).attached ≡ (C.seen core.old.view.below).attached }
     ensures schema { core.new.schema ≡ core.old.schema }
@@ -100,7 +98,7 @@ pub fn answer<C: Connector, P: Source + Sink>(
     requires ready { Ready C.seen core.old }
     requires schema { core.old.schema ≡ schema.now }
     requires room { place.old + 1 < 2 ^ 64 }
-    ensures takes { Takes (is_err result) schema.now (line.now ∷ []) (C.seen core.old.view.below) (C.seen core.new.view.below) place.old place.new (P.seen port.old) (P.seen port.new) }
+    ensures takes { TakesBy C.seen P.seen (is_err result) schema.now (line.now ∷ []) core.old core.new place.old place.new port.old port.new }
     ensures room { place.new ≤ place.old + 1 }
     ensures wrote { Wrote (P.seen port.old) (P.seen port.new) (IsErr result) }
     ensures attached { (C.seen core.new.view.below).attached ≡ (C.seen core.old.view.below).attached }

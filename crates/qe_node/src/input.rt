@@ -1,11 +1,10 @@
 //! Reading an input, line by line.
-ghost use Rattle.std.specs.Prelude.{◌≡◌, ◌<◌, [], length, IfOk};
+ghost use Rattle.std.specs.Prelude.{◌≡◌, ◌<◌, length, IfOk};
 ghost use Rattle.qe_base.specs.Causes.{HasCause};
-ghost use Rattle.qe_history.specs.State.{State};
 ghost use Rattle.qe_node.specs.Port.{OnlyMoved};
-ghost use Rattle.qe_node.specs.Run.{Ran};
+ghost use Rattle.qe_node.specs.Run.{RunsFromAny};
 ghost use Rattle.qe_node.specs.Taking.{RunsOn, end_behind, end_by};
-ghost use Rattle.qe_session.specs.Standing.{Ready, StandsFor};
+ghost use Rattle.qe_session.specs.Standing.{Ready};
 
 use crate::LinesEnd;
 use crate::answer::greet;
@@ -104,7 +103,7 @@ pub fn lines<C: Connector, P: Source + Sink>(
 ) -> LinesEnd
     requires ready { Ready C.seen core.old }
     requires schema { core.old.schema ≡ schema.now }
-    ensures ran { (opening : State) → StandsFor schema.now (C.seen core.old.view.below) opening [] → Ran result schema.now opening (P.seen port.old) (P.seen port.new) (C.seen core.old.view.below) (C.seen core.new.view.below) }
+    ensures ran { RunsFromAny result schema.now (P.seen port.old) (P.seen port.new) (C.seen core.old.view.below) (C.seen core.new.view.below) }
     ensures read_cause { HasCause (P.seen port.old).reads (P.seen port.new).reads (result ≡ LinesEnd.ReadFault) }
     ensures write_cause { HasCause (P.seen port.old).writes (P.seen port.new).writes (result ≡ LinesEnd.WriteFault) }
     ensures others { OnlyMoved (P.seen port.old) (P.seen port.new) }

@@ -1,10 +1,8 @@
 //! A source and a sink that are two objects.
-ghost use Rattle.std.specs.Prelude.{◌≡◌, []};
+ghost use Rattle.std.specs.Prelude.{◌≡◌};
 ghost use Rattle.qe_base.specs.Causes.{HasCause};
-ghost use Rattle.qe_history.specs.State.{State};
-ghost use Rattle.qe_node.specs.Joined.{joined_seen};
-ghost use Rattle.qe_node.specs.Run.{Ran};
-ghost use Rattle.qe_session.specs.Standing.{Ready, StandsFor};
+ghost use Rattle.qe_node.specs.Joined.{RunsOverBoth, joined_seen};
+ghost use Rattle.qe_session.specs.Standing.{Ready};
 
 use crate::LinesEnd;
 use crate::input::lines;
@@ -48,7 +46,7 @@ pub fn run_lines<C: Connector, S: Source, O: Sink>(
 ) -> (LinesEnd, S, O)
     requires ready { Ready C.seen core.old }
     requires schema { core.old.schema ≡ schema.now }
-    ensures ran { (opening : State) → StandsFor schema.now (C.seen core.old.view.below) opening [] → Ran result.0 schema.now opening (joined_seen (S.seen input) (O.seen output)) (joined_seen (S.seen result.1) (O.seen result.2)) (C.seen core.old.view.below) (C.seen core.new.view.below) }
+    ensures ran { RunsOverBoth result.0 schema.now (S.seen input) (O.seen output) (S.seen result.1) (O.seen result.2) (C.seen core.old.view.below) (C.seen core.new.view.below) }
     ensures read_cause { HasCause (S.seen input).reads (S.seen result.1).reads (result.0 ≡ LinesEnd.ReadFault) }
     ensures write_cause { HasCause (O.seen output).writes (O.seen result.2).writes (result.0 ≡ LinesEnd.WriteFault) }
     ensures attached { (C.seen core.new.view.below).attached ≡ (C.seen core.old.view.below).attached }

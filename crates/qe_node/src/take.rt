@@ -2,7 +2,7 @@
 ghost use Rattle.std.specs.Prelude.{◌≡◌, ◌+◌, ◌<◌, ◌≤◌, ◌^◌, ◌++◌, ◌∷◌, [], OnOk, IfErr, IsErr, IsErrOf, MatchOption, false, is_err, length};
 ghost use Rattle.qe_history.specs.Lines.{is_blank};
 ghost use Rattle.qe_node.specs.Port.{Wrote};
-ghost use Rattle.qe_node.specs.Taking.{Takes, TakesSome, TakesWhole, cuts, filled, has_newline};
+ghost use Rattle.qe_node.specs.Taking.{SomeBy, TakesBy, WholeBy, filled, has_newline};
 ghost use Rattle.qe_session.specs.Standing.{Ready};
 
 use crate::answer::answer;
@@ -41,7 +41,7 @@ pub fn take_line<C: Connector, P: Source + Sink>(
     requires ready { Ready C.seen core.old }
     requires schema { core.old.schema ≡ schema.now }
     requires room { place.old + 1 < 2 ^ 64 }
-    ensures takes { Takes (is_err result) schema.now (filled (line.now ∷ [])) (C.seen core.old.view.below) (C.seen core.new.view.below) place.old place.new (P.seen port.old) (P.seen port.new) }
+    ensures takes { TakesBy C.seen P.seen (is_err result) schema.now (filled (line.now ∷ [])) core.old core.new place.old place.new port.old port.new }
     ensures room { place.new ≤ place.old + 1 }
     ensures wrote { Wrote (P.seen port.old) (P.seen port.new) (IsErr result) }
     ensures attached { (C.seen core.new.view.below).attached ≡ (C.seen core.old.view.below).attached }
@@ -94,8 +94,8 @@ pub fn take_lines<C: Connector, P: Source + Sink>(
     requires schema { core.old.schema ≡ schema.now }
     requires one_line { has_newline pending.old.items ≡ false }
     requires room { place.old + length bytes.now < 2 ^ 64 }
-    ensures ok { OnOk result (TakesWhole schema.now (pending.old.items ++ bytes.now) pending.new.items (C.seen core.old.view.below) (C.seen core.new.view.below) place.old place.new (P.seen port.old) (P.seen port.new)) }
-    ensures stops { IfErr result (λ why. TakesSome (cuts why) schema.now (pending.old.items ++ bytes.now) (C.seen core.old.view.below) (C.seen core.new.view.below) place.old place.new (P.seen port.old) (P.seen port.new)) }
+    ensures ok { OnOk result (WholeBy C.seen P.seen schema.now (pending.old.items ++ bytes.now) pending.new.items core.old core.new place.old place.new port.old port.new) }
+    ensures stops { IfErr result (λ why. SomeBy C.seen P.seen why schema.now (pending.old.items ++ bytes.now) core.old core.new place.old place.new port.old port.new) }
     ensures one_line { OnOk result (has_newline pending.new.items ≡ false) }
     ensures room { place.new ≤ place.old + length bytes.now }
     ensures wrote { Wrote (P.seen port.old) (P.seen port.new) (IsErrOf result Stop.Write) }
