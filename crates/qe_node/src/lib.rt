@@ -9,6 +9,7 @@ mod take;
 
 pub use input::lines;
 pub use joined::run_lines;
+pub use port::write_all;
 
 /// How the lines of an input ended.
 #[derive(Clone, Copy, Debug, PartialEq, Eq)]
