@@ -1,7 +1,7 @@
 -- Faults of the host, and at which end they come.
-use Rattle.std.proofs.Common.{◌≡◌, ℕ, ◌≤◌, Bool, true, false, refl, sym, ap, subst, ◌∙◌, arith}
-use Rattle.qe_base.specs.Causes.{CountsFaults, Faults, HasCause, Rose}
-use Rattle.qe_base.specs.Outside.{Seen, OnlyFetched, OnlyWrote, Fetches}
+use Rattle.std.proofs.Common.{◌≡◌, ℕ, false, refl, sym, ap, subst, ◌∙◌, arith}
+use Rattle.qe_base.specs.Causes.{CountsFaults, Faults, HasCause}
+use Rattle.qe_base.specs.Outside.{Seen, OnlyFetched, OnlyWrote}
 use Rattle.qe_cli.specs.Ends.{EndsFor, IsFetchFault, IsReadFault, IsWriteFault, end_from}
 use Rattle.qe_cli.specs.declared.End.{End}
 use Rattle.qe_node.specs.Port.{OnlyMoved}

@@ -1,5 +1,5 @@
 -- The front of a file that was fetched, and how a command ends behind that.
-use Rattle.std.proofs.Common.{◌≡◌, ℕ, zero, suc, ◌+◌, ◌<◌, ◌≤◌, List, [], ◌∷◌, Bool, true, false, refl, sym, ap, ◌∙◌, subst, Option, Some, None, length, take, arith, inl, inr, ◌⊎◌, leb-true, leb-false}
+use Rattle.std.proofs.Common.{◌≡◌, ℕ, zero, suc, ◌+◌, ◌<◌, ◌≤◌, List, [], ◌∷◌, Bool, true, false, refl, ap, subst, Option, Some, None, length, take, arith, inl, inr, ◌⊎◌, leb-true, leb-false}
 use Rattle.std.specs.Prelude.{IfSome, IsSomeAnd, nat_le}
 use Rattle.qe_base.specs.Outside.{Files, OnlyFetched, Seen, file_named}
 use Rattle.qe_base.specs.Schemas.{Schema}
@@ -9,8 +9,8 @@ use Rattle.psl_text.specs.Faults.{HasFault}
 use Rattle.psl_text.specs.Grammar.{max_length}
 use Rattle.psl_text.proofs.FaultTexts.{one_fault_only, tree_or_fault_only, long_refused}
 use Rattle.qe_cli.specs.Asked.{command_of}
-use Rattle.qe_cli.specs.Command.{Comes, FileHolds, LayoutComes, NamesSchema, OnlyAsked, RunComes, SchemaComes, TextComes, WithSchema}
-use Rattle.qe_cli.specs.Ends.{EndsFor, IsFetchFault, IsReadFault, IsWriteFault}
+use Rattle.qe_cli.specs.Command.{Comes, FileHolds, SchemaComes, WithSchema}
+use Rattle.qe_cli.specs.Ends.{EndsFor, IsFetchFault}
 use Rattle.qe_cli.specs.Refused.{HasSchema, Refuses, Unread}
 use Rattle.qe_cli.specs.declared.End.{End}
 use Rattle.qe_cli.specs.declared.End.TheVariants as end

@@ -1,7 +1,6 @@
 -- What the status of a command says, by how it ended.
-use Rattle.std.proofs.Common.{◌≡◌, ℕ, zero, suc, ◌+◌, ◌<◌, ◌≤◌, List, [], ◌∷◌, ◌++◌, Bool, true, false, refl, sym, ap, ◌∙◌, subst, append-nil, Option, Some, None, length, take, arith, inl, inr, ◌⊎◌, true≢false, length-append, codes}
+use Rattle.std.proofs.Common.{◌≡◌, ℕ, zero, suc, ◌+◌, ◌<◌, List, [], ◌++◌, Bool, true, false, refl, sym, ap, ◌∙◌, subst, append-nil, Option, Some, None, length, take, arith, inl, inr, ◌⊎◌, true≢false, length-append}
 use Rattle.std.specs.Prelude.{◌↔◌, IfSome, IsSomeAnd, Ok, Err, Result, is_some, unwrap_or}
-use Rattle.qe_base.specs.Causes.{HasCause}
 use Rattle.qe_base.specs.Outside.{Files, IsSteady, OnlyFetched, OnlyWrote, Seen}
 use Rattle.qe_base.specs.Schemas.{Schema}
 use Rattle.psl_text.specs.declared.fault.TextFault.TheVariants as textual
@@ -11,10 +10,10 @@ use Rattle.psl_rules.specs.Accepted.{first_breach}
 use Rattle.psl_sound.specs.SchemaOf.{schema_of}
 use Rattle.qe_cli.specs.Asked.{Asks, ReadsAlone, command_of}
 use Rattle.qe_cli.specs.Command.{Comes, Ends, FileHolds, HasSchemaFile, LayoutComes, NamesSchema, Offers, RunComes, RunsOver, SchemaComes, TextComes, WithSchema}
-use Rattle.qe_cli.specs.Connected.{AttachesFor, FailsToOpen, IsAttached, IsLaidOtherwise, IsLaidOut, IsUnopened, laid_out}
+use Rattle.qe_cli.specs.Connected.{AttachesFor, FailsToOpen, IsLaidOtherwise, IsLaidOut, IsUnopened, laid_out}
 use Rattle.qe_cli.specs.Ends.{EndsFor, Prints, has_made_line, line_of, status_of}
-use Rattle.qe_cli.specs.Refused.{HasSchema, Refuses, refusal_line}
-use Rattle.qe_cli.specs.Says.{AcceptsSchema, AnswersAll, AnswersRun, FaultsOf, GoesWell, HasFault, IsApart, IsAttachedFor, IsCalm, IsFault, IsLong, IsShut, IsUnread, LaysOut, Opens, OpensSchema, RefusesText, SaysLayout, SaysOk, SaysWhy, Validates}
+use Rattle.qe_cli.specs.Refused.{HasSchema, Refuses}
+use Rattle.qe_cli.specs.Says.{AcceptsSchema, AnswersRun, FaultsOf, GoesWell, HasFault, IsApart, IsCalm, IsFault, IsLong, IsShut, IsUnread, LaysOut, Opens, OpensSchema, RefusesText, SaysWhy, Validates}
 use Rattle.qe_cli.specs.declared.End.{End}
 use Rattle.qe_cli.specs.declared.End.TheVariants as end
 use Rattle.qe_cli.specs.declared.refusal.Refusal.{Refusal}

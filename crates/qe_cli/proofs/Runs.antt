@@ -1,11 +1,11 @@
 -- How a run comes to its end.
-use Rattle.std.proofs.Common.{◌≡◌, ℕ, List, [], refl, sym, ap, ◌∙◌, subst, Option, Some, None, inl, inr, ◌⊎◌}
-use Rattle.std.specs.Prelude.{Ok, Err, Result, option_map}
+use Rattle.std.proofs.Common.{◌≡◌, [], refl, sym, ap, ◌∙◌, subst, inl, inr}
+use Rattle.std.specs.Prelude.{Ok, Result, option_map}
 use Rattle.qe_base.specs.Outside.{Seen}
 use Rattle.qe_base.specs.Schemas.{Schema}
 use Rattle.qe_history.specs.State.{State}
 use Rattle.qe_cli.specs.Command.{RunComes, RunsOver, StaysUnused}
-use Rattle.qe_cli.specs.Connected.{AttachesFor, IsAttached}
+use Rattle.qe_cli.specs.Connected.{AttachesFor}
 use Rattle.qe_cli.specs.Ends.{EndsFor, end_from}
 use Rattle.qe_cli.specs.declared.End.{End}
 use Rattle.qe_cli.specs.declared.End.TheVariants as end

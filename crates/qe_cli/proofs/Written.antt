@@ -1,5 +1,5 @@
 -- Writing a piece, part by part.
-use Rattle.std.proofs.Common.{◌≡◌, ℕ, ◌<◌, ◌≤◌, List, [], ◌++◌, length, take, drop, Bool, true, false, true≢false, refl, sym, ap, ◌∙◌, subst, Option, Some, None, arith, append_assoc, length-append, append-nil}
+use Rattle.std.proofs.Common.{◌≡◌, ℕ, ◌<◌, List, [], ◌++◌, length, take, drop, true≢false, refl, sym, ap, ◌∙◌, subst, Option, Some, None, arith, append_assoc, length-append, append-nil}
 use Rattle.std.specs.Prelude.{Result, Ok, Err, IsErr, is_err, OnErr, OnOk, IfSome, IsSomeAnd}
 use Rattle.std.proofs.Math.Seq.{take-append_seam, take-length}
 use Rattle.std.proofs.lemmas.List.{take-append-drop}

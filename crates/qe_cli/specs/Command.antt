@@ -1,12 +1,12 @@
 -- What a command does: how it ends, what it has read and written by then, and what it did with the connector.
-use Rattle.std.specs.Prelude.{◌≡◌, ◌⊎◌, ℕ, ◌<◌, List, [], length, take, true, false, Option, Some, None, IfSome, IsSomeAnd, Ok, Err, codes}
-use Rattle.qe_base.specs.Outside.{Files, Seen, OnlyFetched, OnlyWrote, IsSteady, file_named}
+use Rattle.std.specs.Prelude.{◌≡◌, ◌⊎◌, ℕ, ◌<◌, List, length, take, false, Option, Some, None, IfSome, IsSomeAnd, Ok, Err, codes, []}
+use Rattle.qe_base.specs.Outside.{Files, Seen, OnlyFetched, OnlyWrote, file_named}
 use Rattle.qe_base.specs.Schemas.{Schema}
 use Rattle.qe_view.specs.Attached.{Connected}
 use Rattle.qe_view.specs.declared.changes.AttachFault.TheVariants as fault
 use Rattle.qe_session.specs.Standing.{first_state}
-use Rattle.qe_node.specs.Run.{Ran}
 use Rattle.qe_node.specs.Port.{Appends, AppendsPart, OnlyMoved}
+use Rattle.qe_node.specs.Run.{Ran}
 use Rattle.qe_node.specs.declared.LinesEnd.{LinesEnd}
 use Rattle.qe_node.specs.declared.LinesEnd.TheVariants as lines
 use Rattle.qe_cli.specs.declared.End.{End}
@@ -84,6 +84,10 @@ RunComes end.ReadFault schema before after given back = RunsOver lines.ReadFault
 RunComes end.WriteFault schema before after given back = RunsOver lines.WriteFault schema before after given back
 RunComes end.Memory schema before after given back = (StaysUnused end.Memory schema given back × (after ≡ before)) ⊎ RunsOver lines.Memory schema before after given back
 RunComes e schema before after given back = StaysUnused e schema given back × (after ≡ before)
+
+-- a run came to its end so by a connector that had been attached for the schema
+abbrev pub RunGoesOn : End → Schema → Seen → Seen → Connected → Connected → Type 0
+RunGoesOn e schema before after opened back = (given : Connected) → AttachesFor schema given opened (Ok tt) → RunComes e schema before after given back
 
 -- How a command came to its end over its schema. But for a run, the connector handed back is the same.
 abbrev pub SchemaComes : Command → End → Schema → Seen → Seen → Connected → Connected → Type 0 → Type 0

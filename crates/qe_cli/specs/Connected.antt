@@ -1,8 +1,8 @@
 -- What a run does with the connector that is handed in.
-use Rattle.std.specs.Prelude.{◌≡◌, ◌⊎◌, [], Option, Some, None, IfSome, IsSomeAnd, List, ℕ, Result}
+use Rattle.std.specs.Prelude.{◌≡◌, ◌⊎◌, [], Some, None, IsSomeAnd, List, ℕ, Result}
 use Rattle.qe_base.specs.Causes.{HasCause}
 use Rattle.qe_base.specs.Schemas.{Schema}
-use Rattle.qe_view.specs.Attached.{Attached, Attaches, Connected, HasText, Kept, KeepsOther}
+use Rattle.qe_view.specs.Attached.{Attaches, Connected, HasText, KeepsOther}
 use Rattle.qe_view.specs.LayoutText.{layout_text}
 use Rattle.qe_view.specs.Layouts.{layout_of}
 use Rattle.qe_view.specs.declared.changes.AttachFault.{AttachFault}

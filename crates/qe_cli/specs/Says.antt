@@ -1,6 +1,6 @@
 -- What the status of a command says.
-use Rattle.std.specs.Prelude.{◌≡◌, ◌⊎◌, ℕ, ◌<◌, ◌≤◌, List, [], length, Option, Some, None, IfSome, IsSomeAnd, Ok, codes, false}
-use Rattle.qe_base.specs.Outside.{Seen, OnlyFetched, IsSteady}
+use Rattle.std.specs.Prelude.{◌≡◌, ◌⊎◌, ℕ, ◌<◌, ◌≤◌, List, [], length, Some, IfSome, IsSomeAnd, Ok, codes, false}
+use Rattle.qe_base.specs.Outside.{Seen, OnlyFetched}
 use Rattle.qe_base.specs.Schemas.{Schema}
 use Rattle.qe_history.specs.Exchange.{LineOutcome, ComeOf, bytes_of, history_of}
 use Rattle.qe_history.specs.Lines.{lines_of}
@@ -8,7 +8,7 @@ use Rattle.qe_node.specs.Port.{Appends}
 use Rattle.qe_node.specs.Run.{longest_input}
 use Rattle.qe_session.specs.Standing.{StandsFor, first_state}
 use Rattle.qe_view.specs.Attached.{Connected}
-use Rattle.qe_cli.specs.Asked.{command_of, Asks, ReadsAlone}
+use Rattle.qe_cli.specs.Asked.{Asks, ReadsAlone}
 use Rattle.qe_cli.specs.Command.{HasSchemaFile, NamesRefused, NamesSchema, Offers}
 use Rattle.qe_cli.specs.Connected.{AttachesFor, FailsToOpen, IsAttached, IsLaidOtherwise, IsLaidOut, IsUnopened, laid_out}
 use Rattle.qe_cli.specs.Ends.{EndsFor, Prints, line_of}

@@ -1,14 +1,13 @@
 //! A run: the lines of the input, answered over a schema by a connector.
-ghost use Rattle.std.specs.Prelude.{◌≡◌, [], IfErr, IfOk, None, Ok, OnOk};
+ghost use Rattle.std.specs.Prelude.{◌≡◌, IfErr, IfOk, None, Ok, OnOk};
 ghost use Rattle.qe_base.specs.Causes.{HasCause};
-ghost use Rattle.qe_history.specs.State.{State};
 ghost use Rattle.qe_node.specs.Port.{OnlyMoved};
-ghost use Rattle.qe_node.specs.Run.{Ran};
+ghost use Rattle.qe_node.specs.Run.{RunsFromAny};
 ghost use Rattle.qe_overlay.specs.Fits.{HasLayout};
-ghost use Rattle.qe_session.specs.Standing.{Ready, StandsFor};
-ghost use Rattle.qe_view.specs.Attached.{Connected, FitLayout};
+ghost use Rattle.qe_session.specs.Standing.{Ready};
+ghost use Rattle.qe_view.specs.Attached.{FitLayout};
 ghost use Rattle.qe_view.specs.Layouts.{layout_of};
-ghost use Rattle.qe_cli.specs.Command.{RunComes, StaysUnused};
+ghost use Rattle.qe_cli.specs.Command.{RunComes, RunGoesOn, StaysUnused};
 ghost use Rattle.qe_cli.specs.Connected.{AttachesFor};
 ghost use Rattle.qe_cli.specs.Ends.{EndsFor};
 
@@ -51,7 +50,7 @@ fn answer_lines<C: Connector, H: Host>(
 ) -> (LinesEnd, C)
     requires ready { Ready C.seen core }
     requires schema { core.schema ≡ schema.now }
-    ensures ran { (opening : State) → StandsFor schema.now (C.seen core.view.below) opening [] → Ran result.0 schema.now opening (H.seen host.old) (H.seen host.new) (C.seen core.view.below) (C.seen result.1) }
+    ensures ran { RunsFromAny result.0 schema.now (H.seen host.old) (H.seen host.new) (C.seen core.view.below) (C.seen result.1) }
     ensures read_cause { HasCause (H.seen host.old).reads (H.seen host.new).reads (result.0 ≡ LinesEnd.ReadFault) }
     ensures write_cause { HasCause (H.seen host.old).writes (H.seen host.new).writes (result.0 ≡ LinesEnd.WriteFault) }
     ensures others { OnlyMoved (H.seen host.old) (H.seen host.new) }
@@ -74,7 +73,7 @@ fn run_lines<C: Connector, H: Host>(
     requires same { owner ≡ schema.now }
     requires attached { HasLayout (C.seen connector) (layout_of schema.now) }
     requires fits { FitLayout (C.seen connector) }
-    ensures comes { (given : Connected) → AttachesFor schema.now given (C.seen connector) (Ok tt) → RunComes result.0 schema.now (H.seen host.old) (H.seen host.new) given (C.seen result.1) }
+    ensures comes { RunGoesOn result.0 schema.now (H.seen host.old) (H.seen host.new) (C.seen connector) (C.seen result.1) }
     ensures causes { EndsFor result.0 (H.seen host.old) (H.seen host.new) }
     ensures others { OnlyMoved (H.seen host.old) (H.seen host.new) }
 {
