@@ -1,18 +1,12 @@
 -- Writing a piece, part by part.
-use Rattle.std.proofs.Common.{◌≡◌, ℕ, ◌<◌, List, [], ◌++◌, length, take, drop, true≢false, refl, sym, ap, ◌∙◌, subst, Option, Some, None, arith, append_assoc, length-append, append-nil}
-use Rattle.std.specs.Prelude.{Result, Ok, Err, IsErr, is_err, OnErr, OnOk, IfSome, IsSomeAnd}
-use Rattle.std.proofs.Math.Seq.{take-append_seam, take-length}
-use Rattle.std.proofs.lemmas.List.{take-append-drop}
-use Rattle.qe_base.specs.Causes.{Faults, HasCause}
+use Rattle.std.proofs.Common.{ℕ, ◌<◌, List, length, true≢false, refl, sym, subst, arith}
+use Rattle.std.specs.Prelude.{Result, Ok, Err, IsErr, OnErr, OnOk}
+use Rattle.std.proofs.Math.Seq.{take-length}
+use Rattle.qe_base.specs.Causes.{HasCause}
 use Rattle.qe_base.specs.Outside.{Seen, OnlyWrote}
 use Rattle.qe_base.specs.declared.outside.Failed.{Failed}
-use Rattle.qe_base.specs.Schemas.{Schema}
-use Rattle.qe_cli.specs.Command.{TextComes, LayoutComes}
-use Rattle.qe_cli.specs.Connected.{laid_out}
-use Rattle.qe_cli.specs.Ends.{EndsFor, IsWriteFault, Prints}
-use Rattle.qe_cli.specs.declared.End.{End}
-use Rattle.qe_cli.specs.declared.End.TheVariants as end
-use Rattle.qe_cli.proofs.Causes.{cause_as, cause_then, wrote_ends}
+use Rattle.qe_cli.specs.Ends.{Prints}
+use Rattle.qe_cli.proofs.Causes.{cause_as}
 use Rattle.qe_node.specs.Port.{Appends, AppendsPart}
 
 -- a line that was printed, or its front

@@ -1,5 +1,5 @@
 -- What a command does: how it ends, what it has read and written by then, and what it did with the connector.
-use Rattle.std.specs.Prelude.{◌≡◌, ◌⊎◌, ℕ, ◌<◌, List, length, take, false, Option, Some, None, IfSome, IsSomeAnd, Ok, Err, codes, []}
+use Rattle.std.specs.Prelude.{◌≡◌, ◌⊎◌, ℕ, List, false, Option, Some, None, IfSome, IsSomeAnd, Ok, Err, codes}
 use Rattle.qe_base.specs.Outside.{Files, Seen, OnlyFetched, OnlyWrote, file_named}
 use Rattle.qe_base.specs.Schemas.{Schema}
 use Rattle.qe_view.specs.Attached.{Connected}
