@@ -1,5 +1,5 @@
 -- Why the connector that a run hands back may be asked for the rows of its schema.
-use Rattle.std.proofs.Common.{◌≡◌, ℕ, List, [], ◌∷◌, Option, Some, None, refl, sym, ap, ◌∙◌, subst}
+use Rattle.std.proofs.Common.{◌≡◌, ℕ, List, [], ◌∷◌, Option, Some, refl, sym, ap, ◌∙◌, subst}
 use Rattle.std.specs.Prelude.{codes, unwrap_or}
 use Rattle.qe_base.specs.Outside.{Files, Seen}
 use Rattle.qe_base.specs.Schemas.{Schema}

@@ -98,6 +98,25 @@ impl<T: Drop> From<AllocFailed<T>> for Fault {
     }
 }
 
+/// What keeps the tables of a run.
+#[derive(Clone, Copy, Debug, PartialEq, Eq)]
+pub enum Keeper {
+    /// The connector in memory.
+    Memory,
+    /// The connector over plain lists, which tells nothing.
+    Plain,
+}
+
+impl Keeper {
+    /// What a line about a case that differs over it begins with.
+    pub fn text(self) -> &'static str {
+        match self {
+            Keeper::Memory => "",
+            Keeper::Plain => "over the plain connector, ",
+        }
+    }
+}
+
 /// What comes of a case: the status, the output, and what the connector tells in the end.
 #[derive(Drop)]
 pub struct Outcome {

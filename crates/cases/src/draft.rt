@@ -251,6 +251,7 @@ impl Draft {
             "attach" => CallKind::Attach,
             "load" => CallKind::Load,
             "scan" => CallKind::Scan,
+            "page" => CallKind::Page,
             "last" => CallKind::Last,
             "apply" => CallKind::Apply,
             _ => return Err(Fault::Form),

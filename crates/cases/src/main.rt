@@ -1,6 +1,6 @@
 //! Cases of the engine, which lie as texts in the folder that this program runs in. Each is carried out by
-//! the program's top call over a host and a connector in memory, and what comes is compared with what must
-//! come. A line is printed for each case that differs, and the counts at the end.
+//! the program's top call over a host in memory, a run over each of two connectors, and what comes is
+//! compared with what must come. A line is printed for each case that differs, and the counts at the end.
 #![tactic(auto)]
 
 mod block;

@@ -1,6 +1,6 @@
 //! From files to cases, each of which is carried out as soon as it was read.
 use crate::block;
-use crate::case::{Case, Fault, Stop, Tally};
+use crate::case::{Case, Fault, Keeper, Stop, Tally};
 use crate::compare::{describe, first_difference};
 use crate::draft::{Draft, Named, cut};
 use crate::files::CaseFile;
@@ -82,6 +82,29 @@ impl Reading {
         print_differing(rt, file, line, title, fault.text())
     }
 
+    /// Carries a case out over a connector, and says how it differs, if it does.
+    fn difference(&self, case: &Case, keeper: Keeper) -> Result<Option<String>, Stop> {
+        let got = outcome_of(self.alloc, case, keeper)?;
+        match first_difference(&case.wanted, &got) {
+            None => Ok(None),
+            Some(found) => {
+                let what = describe(self.alloc, found, &case.wanted, &got)?;
+                let over = keeper.text();
+                Ok(Some(format!(in self.alloc; "{over}{what}")?))
+            }
+        }
+    }
+
+    /// Carries a case out over both connectors, and says how it differs first, if it does. But for runs the
+    /// connector is out of play.
+    fn differs(&self, case: &Case) -> Result<Option<String>, Stop> {
+        let found = self.difference(case, Keeper::Memory)?;
+        if found.is_some() || case.words.is_some() {
+            return Ok(found);
+        }
+        self.difference(case, Keeper::Plain)
+    }
+
     /// Carries a case out, and prints how it differs.
     fn judge(
         &mut self,
@@ -91,17 +114,11 @@ impl Reading {
         title: &str,
         case: &Case,
     ) -> Result<(), Stop> {
-        let got = outcome_of(self.alloc, case)?;
-        match first_difference(&case.wanted, &got) {
-            None => {
-                self.count(false);
-                Ok(())
-            }
-            Some(found) => {
-                self.count(true);
-                let what = describe(self.alloc, found, &case.wanted, &got)?;
-                print_differing(rt, file, line, title, what.as_str())
-            }
+        let found = self.differs(case)?;
+        self.count(found.is_some());
+        match found {
+            None => Ok(()),
+            Some(what) => print_differing(rt, file, line, title, what.as_str()),
         }
     }
 

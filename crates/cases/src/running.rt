@@ -1,14 +1,18 @@
-//! Carries a case out, by the program's top call over a host and a connector in memory.
-ghost use Rattle.std.specs.Prelude.{◌≡◌, IfOk, ◌∷◌, [], map, string_bytes, codes};
+//! Carries a case out, by the program's top call over a host in memory and one of two connectors.
+ghost use Rattle.std.specs.Prelude.{◌≡◌, None, IfOk, ◌∷◌, [], map, string_bytes, codes};
 ghost use Rattle.qe_base.specs.MemHost.{host_files};
 
-use crate::case::{Case, Outcome};
+use crate::case::{Case, Keeper, Outcome};
 use crate::told::told_of;
 use qe_base::{Bytes, Items, MemHost, MemSink, MemSource, Memory, Text};
 use qe_cli::{Ended, command};
 use qe_mem::MemConnector;
+use qe_plain::PlainConnector;
 use qe_view::Connector;
 use std::alloc::{AllocError, Global};
+
+/// The connector of a run.
+type Kept = Box<dyn Connector + Send>;
 
 /// A host whose one file is the schema.
 fn host_of(alloc: Global, case: &Case) -> Result<MemHost, Memory>
@@ -34,11 +38,11 @@ fn run_words(alloc: Global) -> Result<Vec<String>, AllocError>
     Ok(words)
 }
 
-/// Carries out a case whose words are given. Nothing is told of the connector.
-fn outcome_by(alloc: Global, case: &Case, words: &[String]) -> Result<Outcome, Memory> {
+/// Carries out a case by these words over a connector that isn't attached.
+fn outcome_by(alloc: Global, case: &Case, words: &[String], memory: Kept) -> Result<Outcome, Memory>
+    requires { (⟦<Kept as Connector>⟧.seen memory).attached ≡ None }
+{
     let mut host = host_of(alloc, case)?;
-    let tables = MemConnector::new(alloc, case.failing.connector.as_slice())?;
-    let memory = Box::new(alloc, tables)?;
     let ended = command(alloc, words, &mut host, memory);
     Ok(Outcome {
         status: ended.status,
@@ -47,11 +51,11 @@ fn outcome_by(alloc: Global, case: &Case, words: &[String]) -> Result<Outcome, M
     })
 }
 
-/// Carries out a run.
-fn outcome_of_run(alloc: Global, case: &Case) -> Result<Outcome, Memory> {
+/// Carries out a run over a connector that isn't attached, and asks it in the end what the case asks.
+fn outcome_of_run(alloc: Global, case: &Case, memory: Kept) -> Result<Outcome, Memory>
+    requires { (⟦<Kept as Connector>⟧.seen memory).attached ≡ None }
+{
     let mut host = host_of(alloc, case)?;
-    let tables = MemConnector::new(alloc, case.failing.connector.as_slice())?;
-    let memory = Box::new(alloc, tables)?;
     let words = run_words(alloc)?;
     let Ended {
         status,
@@ -65,10 +69,34 @@ fn outcome_of_run(alloc: Global, case: &Case) -> Result<Outcome, Memory> {
     })
 }
 
-/// What comes of a case.
-pub fn outcome_of(alloc: Global, case: &Case) -> Result<Outcome, Memory> {
+/// What comes of a case over a connector that isn't attached.
+fn outcome_over(alloc: Global, case: &Case, memory: Kept) -> Result<Outcome, Memory>
+    requires { (⟦<Kept as Connector>⟧.seen memory).attached ≡ None }
+{
     match &case.words {
-        Some(words) => outcome_by(alloc, case, words.as_slice()),
-        None => outcome_of_run(alloc, case),
+        Some(words) => outcome_by(alloc, case, words.as_slice(), memory),
+        None => outcome_of_run(alloc, case, memory),
+    }
+}
+
+/// What comes of a case over the connector in memory.
+fn outcome_in_memory(alloc: Global, case: &Case) -> Result<Outcome, Memory> {
+    let tables = MemConnector::new(alloc, case.failing.connector.as_slice())?;
+    let memory = Box::new(alloc, tables)?;
+    outcome_over(alloc, case, memory)
+}
+
+/// What comes of a case over the plain connector.
+fn outcome_in_lists(alloc: Global, case: &Case) -> Result<Outcome, Memory> {
+    let tables = PlainConnector::new(alloc, case.failing.connector.as_slice())?;
+    let memory = Box::new(alloc, tables)?;
+    outcome_over(alloc, case, memory)
+}
+
+/// What comes of a case over a connector.
+pub fn outcome_of(alloc: Global, case: &Case, keeper: Keeper) -> Result<Outcome, Memory> {
+    match keeper {
+        Keeper::Memory => outcome_in_memory(alloc, case),
+        Keeper::Plain => outcome_in_lists(alloc, case),
     }
 }

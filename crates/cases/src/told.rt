@@ -43,18 +43,18 @@ fn digits(alloc: Global, bytes: &[u8]) -> Result<String, AllocError> {
 fn shown_value(alloc: Global, value: &Value) -> Result<String, AllocError> {
     match value {
         Value::Null => String::from_str(alloc, "null"),
-        Value::Text(text) => quoted(alloc, text.as_str()),
+        Value::Text(text) => quoted(alloc, text.get().as_str()),
         Value::Bool(truth) => format!(in alloc; "{truth}"),
         Value::Int(number) => format!(in alloc; "{number}"),
         Value::Moment(moment) => format!(in alloc; "moment {moment}"),
-        Value::Blob(bytes) => digits(alloc, bytes.as_slice()),
+        Value::Blob(bytes) => digits(alloc, bytes.get().as_slice()),
         Value::Member(member) => format!(in alloc; "member {member}"),
     }
 }
 
 /// Appends a line with the values of a row.
 fn push_row(alloc: Global, text: &mut Vec<u8>, row: &Row) -> Result<(), AllocError> {
-    for (number, value) in row.values.as_slice().iter().enumerate() {
+    for (number, value) in row.values().iter().enumerate() {
         if number > 0 {
             text.push(b' ')?;
         }
@@ -87,7 +87,7 @@ fn push_rows<C: Connector>(
     requires { HasTable (C.seen tables.old) table.0 }
     ensures { (C.seen tables.new).attached ≡ (C.seen tables.old).attached }
 {
-    match tables.scan(table) {
+    match tables.scan(table, &[]) {
         Ok(rows) => {
             for row in rows.rows.as_slice() {
                 push_row(alloc, text, row)?;

@@ -14,9 +14,9 @@ use crate::names::{member_names, number_among};
 use psl_keys::number_in;
 use psl_parts::{given, is_called, name_in, text_in};
 use psl_text::{Attribute, Term};
-use qe_base::{Fill, Value};
+use qe_base::{Fill, Shared, Value};
 use qe_scalars::{big_in, bytes_in, moment_in, small_in};
-use qe_text::{Memory, Text};
+use qe_text::Memory;
 use std::alloc::Global;
 
 /// The number of a member of an enum, from 0, and 0 where there is none. `Memory` where 16 bits don't
@@ -34,7 +34,7 @@ fn text_fill(alloc: Global, default: &Term) -> Result<Fill, Memory>
     ensures { IfOk result (λ filled. filled ≡ spec.literal_or fill.Uuid (option_map value.Text (text_in default.now))) }
 {
     match text_in(default) {
-        Some(text) => Ok(Fill::Literal(Value::Text(Text::from_str(alloc, text)?))),
+        Some(text) => Ok(Fill::Literal(Value::text(alloc, text)?)),
         None => Ok(Fill::Uuid),
     }
 }
@@ -99,7 +99,7 @@ fn bytes_fill(alloc: Global, default: &Term) -> Result<Fill, Memory>
 {
     match text_in(default) {
         Some(text) => match bytes_in(alloc, text)? {
-            Some(bytes) => Ok(Fill::Literal(Value::Blob(bytes))),
+            Some(bytes) => Ok(Fill::Literal(Value::Blob(Shared::new(alloc, bytes)?))),
             None => Ok(Fill::Absent),
         },
         None => Ok(Fill::Absent),

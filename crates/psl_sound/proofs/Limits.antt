@@ -11,7 +11,7 @@ use Rattle.std.proofs.lemmas.Bool.{eqb-true}
 use Rattle.psl_text.specs.declared.tree.Name.{Name}
 use Rattle.psl_text.specs.declared.tree.Block.{Block}
 use Rattle.psl_text.specs.declared.tree.Tree.{Tree}
-use Rattle.psl_rules.specs.Accepted.{rules, IsAccepted}
+use Rattle.psl_rules.specs.Accepted.{IsAccepted}
 use Rattle.psl_rules.specs.Parts.{Places, ModelField, Member, models, enums, fields, members}
 use Rattle.psl_rules.specs.Names.{field_names, member_names, is_relation}
 use Rattle.psl_rules.specs.Relations.{End, standing_in, leading_of, end_at, ends, end_place, has_fields, partners_among, has_one_partner, ends_are_paired}

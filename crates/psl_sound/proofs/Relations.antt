@@ -5,7 +5,7 @@ use Rattle.std.specs.List.{list_all, zip}
 use Rattle.std.proofs.lemmas.Bool.{and_parts, eqb-true}
 use Rattle.psl_text.specs.declared.tree.Block.{Block}
 use Rattle.psl_text.specs.declared.tree.Tree.{Tree}
-use Rattle.psl_rules.specs.Accepted.{rules, IsAccepted}
+use Rattle.psl_rules.specs.Accepted.{IsAccepted}
 use Rattle.psl_rules.specs.Parts.{Spelling, ModelField, models}
 use Rattle.psl_rules.specs.Names.{is_optional}
 use Rattle.psl_rules.specs.Attributes.{name_columns, names_column, are_distinct_names}

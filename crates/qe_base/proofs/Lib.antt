@@ -1,1 +1,2 @@
 pub mod LaterCalls
+pub mod Marked

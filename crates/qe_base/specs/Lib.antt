@@ -1,5 +1,6 @@
 pub mod Calls
 pub mod Causes
+pub mod Marks
 pub mod MemHost
 pub mod MemSink
 pub mod MemSource

@@ -1,5 +1,5 @@
 -- What is seen of a host in memory.
-use Rattle.std.specs.Prelude.{ℕ, Bool, true, ◌||◌, List, Some, filter, map, is_none, if◌then◌else◌}
+use Rattle.std.specs.Prelude.{ℕ, Bool, true, ◌||◌, List, Option, Some, filter, map, is_none, option_map, if◌then◌else◌}
 use Rattle.qe_base.specs.declared.outside.calls.Calls.{Calls}
 use Rattle.qe_base.specs.declared.outside.mem_source.MemSource.{MemSource}
 use Rattle.qe_base.specs.declared.outside.mem_sink.MemSink.{MemSink}
@@ -9,7 +9,8 @@ use Rattle.qe_base.specs.declared.outside.mem_host.HostCall.TheVariants.{Fetch}
 use Rattle.qe_base.specs.Calls.{faults_of, fails_next, with_call, with_fault}
 use Rattle.qe_base.specs.MemSource.{source_left}
 use Rattle.qe_base.specs.MemSink.{sink_taken}
-use Rattle.qe_base.specs.Outside.{Files, Seen, file_named}
+use Rattle.qe_base.specs.Marks.{turns_at}
+use Rattle.qe_base.specs.Outside.{Files, Seen, Turn, file_named}
 
 abbrev pub is_fetch : HostCall → Bool
 is_fetch Fetch = true
@@ -31,11 +32,21 @@ host_sink host = host.sink
 abbrev pub host_fetches : MemHost → Calls
 host_fetches host = host.fetches
 
+-- what each read began with, as long as it notes that
+abbrev pub host_turns : MemHost → Option (List Turn)
+host_turns host = option_map (turns_at host.source.bytes host.sink.taken.items) host.turns
+
+-- the names that were asked for, as long as it notes them
+abbrev pub host_asked : MemHost → Option (List (List ℕ))
+host_asked host = host.asked
+
 abbrev pub host_seen : MemHost → Seen
 host_seen host = record {
   left = source_left host.source;
   taken = sink_taken host.sink;
   files = Some host.files;
+  turns = host_turns host;
+  asked = host_asked host;
   reads = faults_of host.source.reads;
   writes = faults_of host.sink.writes;
   fetches = faults_of host.fetches;

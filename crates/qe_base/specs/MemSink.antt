@@ -1,5 +1,5 @@
 -- What is seen of a sink in memory.
-use Rattle.std.specs.Prelude.{ℕ, List, Option, Some, None, if◌then◌else◌}
+use Rattle.std.specs.Prelude.{◌≡◌, ◌⊎◌, ℕ, List, ◌++◌, Option, Some, None, if◌then◌else◌}
 use Rattle.qe_base.specs.declared.outside.calls.Calls.{Calls}
 use Rattle.qe_base.specs.declared.outside.mem_sink.MemSink.{MemSink}
 use Rattle.qe_base.specs.Calls.{faults_of}
@@ -10,6 +10,14 @@ use Rattle.qe_base.specs.Outside.{Seen}
 abbrev pub sink_taken : MemSink → Option (List ℕ)
 sink_taken sink = if sink.tells then Some sink.taken.items else None
 
+-- the bytes that it keeps of what was written
+abbrev pub sink_kept : MemSink → List ℕ
+sink_kept sink = sink.taken.items
+
+-- it keeps what it kept, and this piece more at the most
+abbrev pub KeepsOn : MemSink → MemSink → List ℕ → Type 0
+KeepsOn before after piece = (sink_kept after ≡ sink_kept before) ⊎ (sink_kept after ≡ sink_kept before ++ piece)
+
 -- how many bytes it has room for
 abbrev pub sink_room : MemSink → ℕ
 sink_room sink = sink.room
@@ -19,4 +27,4 @@ abbrev pub sink_writes : MemSink → Calls
 sink_writes sink = sink.writes
 
 abbrev pub sink_seen : MemSink → Seen
-sink_seen sink = record { left = None; taken = sink_taken sink; files = None; reads = no_faults; writes = faults_of sink.writes; fetches = no_faults }
+sink_seen sink = record { left = None; taken = sink_taken sink; files = None; turns = None; asked = None; reads = no_faults; writes = faults_of sink.writes; fetches = no_faults }

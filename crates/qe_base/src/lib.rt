@@ -17,7 +17,9 @@ pub use outside::{
     Failed, FetchFault, Host, HostCall, MemHost, MemSink, MemSource, Outer, Sink, Source,
 };
 pub use qe_text::{Boxed, Bytes, Items, Memory, Text};
-pub use query::{Child, Filter, Like, Look, OrderBy, OrderEnd, Page, Pick, Quant, Test, Unique};
+pub use query::{
+    Child, ColumnTest, Filter, Like, Look, OrderBy, OrderEnd, Page, Pick, Quant, Test, Unique,
+};
 pub use schema::{Action, Choice, Column, Field, Fill, Key, Link, Relation, Table};
 pub use shared::Shared;
 pub use value::{EnumId, Kind, RelId, Row, Rows, TableId, Value};

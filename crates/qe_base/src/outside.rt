@@ -5,6 +5,7 @@
 //! traits is one record, so that each call says with it what else stays as it was.
 
 mod calls;
+mod marks;
 mod mem_host;
 mod mem_sink;
 mod mem_source;

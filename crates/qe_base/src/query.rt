@@ -33,6 +33,13 @@ pub enum Test {
     Like(Like, Text),
 }
 
+/// What is asked of the value in one column of a row.
+#[derive(Drop)]
+pub struct ColumnTest {
+    pub column: u16,
+    pub test: Test,
+}
+
 /// Of how many related rows a filter has to hold.
 #[derive(Clone, Copy, Debug, PartialEq, Eq)]
 pub enum Quant {

@@ -6,6 +6,7 @@ ghost use Rattle.std.specs.Cmp.Lexicographic.{slice_cmp};
 ghost use Rattle.qe_base.specs.Values.{rank, bytes_in, number_in, value_cmp, value_partial_cmp, value_eq, row_cmp, row_partial_cmp, row_eq};
 ghost use Rattle.qe_base.specs.ValueOrder.{value_cmp_total, value_eq_equivalence, value_partial_order, value_partial_equivalence, row_cmp_total, row_eq_equivalence, row_partial_order, row_partial_equivalence};
 
+use crate::shared::Shared;
 use qe_text::{Bytes, Memory, Text};
 use sqlite_items::Items;
 use std::alloc::Global;
@@ -42,32 +43,42 @@ pub enum Kind {
     Member(EnumId),
 }
 
-/// What stands in a column of a row.
+/// What stands in a column of a row. It never changes: a text or blob is shared by all that have it.
 #[derive(Drop)]
 pub enum Value {
     Null,
-    Text(Text),
+    Text(Shared<Text>),
     Bool(bool),
     /// A number of the kinds `Int` and `Big`.
     Int(i64),
     Moment(i64),
-    Blob(Bytes),
+    Blob(Shared<Bytes>),
     /// A member by its number from 0.
     Member(u16),
 }
 
 impl Value {
-    /// An equal value.
-    pub fn copy(&self, alloc: Global) -> Result<Value, Memory>
+    ghost use Rattle.qe_base.specs.declared.value.Value.TheVariants as value;
+
+    /// A text as a value.
+    pub fn text(alloc: Global, text: &str) -> Result<Value, Memory>
+        ensures { IfOk result (λ v. v ≡ value.Text text.now) }
+    {
+        let text = Text::from_str(alloc, text)?;
+        Ok(Value::Text(Shared::new(alloc, text)?))
+    }
+
+    /// The same value for one more owner. Nothing is copied.
+    pub fn share(&self) -> Result<Value, Memory>
         ensures { IfOk result (λ v. v ≡ self.now) }
     {
         match self {
             Value::Null => Ok(Value::Null),
-            Value::Text(text) => Ok(Value::Text(text.copy(alloc)?)),
+            Value::Text(text) => Ok(Value::Text(text.share()?)),
             Value::Bool(truth) => Ok(Value::Bool(*truth)),
             Value::Int(number) => Ok(Value::Int(*number)),
             Value::Moment(moment) => Ok(Value::Moment(*moment)),
-            Value::Blob(bytes) => Ok(Value::Blob(bytes.copy(alloc)?)),
+            Value::Blob(bytes) => Ok(Value::Blob(bytes.share()?)),
             Value::Member(member) => Ok(Value::Member(*member)),
         }
     }
@@ -88,16 +99,16 @@ impl Value {
     }
 
     /// The bytes of a text or a blob, none of others.
-    fn bytes(&self) -> &[u8]
+    pub fn bytes(&self) -> &[u8]
         ensures { result.now ≡ bytes_in self.now }
     {
         match self {
             Value::Null => &[],
-            Value::Text(text) => text.as_str().as_bytes(),
+            Value::Text(text) => text.get().as_str().as_bytes(),
             Value::Bool(_) => &[],
             Value::Int(_) => &[],
             Value::Moment(_) => &[],
-            Value::Blob(bytes) => bytes.as_slice(),
+            Value::Blob(bytes) => bytes.get().as_slice(),
             Value::Member(_) => &[],
         }
     }
@@ -160,22 +171,36 @@ impl PartialEq for Value {
     }
 }
 
-/// One value for each column of a table, or of a key, in column order.
+/// One value for each column of a table, or of a key, in column order. It is shared by all that have it.
 #[derive(Drop)]
 pub struct Row {
-    pub values: Items<Value>,
+    values: Shared<Items<Value>>,
 }
 
 impl Row {
-    /// An equal row.
-    pub fn copy(&self, alloc: Global) -> Result<Row, Memory>
-        ensures { IfOk result (λ r. r ≡ self.now) }
+    /// A row of these values.
+    pub fn new(alloc: Global, values: Items<Value>) -> Result<Row, Memory>
+        ensures { IfOk result (λ row. row.values ≡ values) }
     {
-        let mut values = Items::new(alloc);
-        for value in self.values.as_slice() {
-            values.push(value.copy(alloc)?)?;
-        }
-        Ok(Row { values })
+        Ok(Row {
+            values: Shared::new(alloc, values)?,
+        })
+    }
+
+    /// Its values, in column order.
+    pub fn values(&self) -> &[Value]
+        ensures { result.now ≡ self.now.values }
+    {
+        self.values.get().as_slice()
+    }
+
+    /// The same row for one more owner. Nothing is copied.
+    pub fn share(&self) -> Result<Row, Memory>
+        ensures { IfOk result (λ row. row ≡ self.now) }
+    {
+        Ok(Row {
+            values: self.values.share()?,
+        })
     }
 }
 
@@ -196,7 +221,7 @@ impl Ord for Row {
     ghost matches_eq = { Prim.search (comparing, rules) };
 
     fn cmp(&self, other: &Row) -> Ordering {
-        compare(self.values.as_slice(), other.values.as_slice())
+        compare(self.values(), other.values())
     }
 }
 

@@ -1,5 +1,5 @@
 -- What a command does: how it ends, what it has read and written by then, and what it did with the connector.
-use Rattle.std.specs.Prelude.{◌≡◌, ◌⊎◌, ℕ, List, false, Option, Some, None, IfSome, IsSomeAnd, Ok, Err, codes}
+use Rattle.std.specs.Prelude.{◌≡◌, ◌⊎◌, ℕ, List, [], ◌∷◌, ◌++◌, false, Option, Some, None, IfSome, IsSomeAnd, Ok, Err, codes}
 use Rattle.qe_base.specs.Outside.{Files, Seen, OnlyFetched, OnlyWrote, file_named}
 use Rattle.qe_base.specs.Schemas.{Schema}
 use Rattle.qe_view.specs.Attached.{Connected}
@@ -44,6 +44,11 @@ HasSchemaFile words files = (all : Files) × (command : Command) × (name : List
 -- the host tells its files, and the one that the words name holds such a text
 abbrev pub Offers : List (List ℕ) → Option Files → (List ℕ → Type 0) → Type 0
 Offers words files P = (all : Files) × (command : Command) × (name : List ℕ) × (text : List ℕ) × (files ≡ Some all) × (command_of words ≡ Some (command, name)) × (file_named name all ≡ Some text) × P text
+
+-- where the host tells which files were asked for: none was since, or once the one that the words name
+abbrev pub AsksAtMost : List (List ℕ) → Seen → Seen → Type 0
+AsksAtMost words before after =
+    IfSome after.asked (λ names. IsSomeAnd before.asked (λ earlier. (names ≡ earlier) ⊎ ((command : Command) × (name : List ℕ) × (command_of words ≡ Some (command, name)) × (names ≡ earlier ++ name ∷ []))))
 
 -- ---- a command over its schema, once that was fetched
 

@@ -14,10 +14,12 @@ host_seen host = record {
   left = None;
   taken = None;
   files = None;
+  turns = None;
+  asked = None;
   reads = counted host.read_faults;
   writes = counted host.write_faults;
   fetches = counted host.fetch_faults;
 }
 
 abbrev pub nothing_failed : Seen
-nothing_failed = record { left = None; taken = None; files = None; reads = counted 0; writes = counted 0; fetches = counted 0 }
+nothing_failed = record { left = None; taken = None; files = None; turns = None; asked = None; reads = counted 0; writes = counted 0; fetches = counted 0 }

@@ -1,11 +1,11 @@
 -- What the status of a command says.
 use Rattle.std.specs.Prelude.{◌≡◌, ◌⊎◌, ℕ, ◌<◌, ◌≤◌, List, [], length, Some, IfSome, IsSomeAnd, Ok, codes, false}
-use Rattle.qe_base.specs.Outside.{Seen, OnlyFetched}
+use Rattle.qe_base.specs.Outside.{Seen, Turn, OnlyFetched}
 use Rattle.qe_base.specs.Schemas.{Schema}
 use Rattle.qe_history.specs.Exchange.{LineOutcome, ComeOf, bytes_of, history_of}
 use Rattle.qe_history.specs.Lines.{lines_of}
 use Rattle.qe_node.specs.Port.{Appends}
-use Rattle.qe_node.specs.Run.{longest_input}
+use Rattle.qe_node.specs.Run.{AtEachTurn, IsPrompt, longest_input}
 use Rattle.qe_session.specs.Standing.{StandsFor, first_state}
 use Rattle.qe_view.specs.Attached.{Connected}
 use Rattle.qe_cli.specs.Asked.{Asks, ReadsAlone}
@@ -55,6 +55,15 @@ AnswersRun words before after given back status = status ≡ 0 → Asks command.
 -- the same of the connector itself, by what is seen of it
 abbrev pub AnswersOver : {C : Type 0} → (C → Connected) → List (List ℕ) → Seen → Seen → C → C → ℕ → Type 0
 AnswersOver seen words before after given back status = AnswersRun words before after (seen given) (seen back) status
+
+-- A read was one of a run over the schema that the words name, and began when each whole line in what had been read by then
+-- was answered.
+abbrev pub ReadsOn : List (List ℕ) → Seen → Turn → Type 0
+ReadsOn words before turn = (schema : Schema) × NamesSchema command.Run words before.files schema × (read : List ℕ) × (outcomes : List LineOutcome) × IsPrompt schema read outcomes before turn
+
+-- so it is with each read, at every end, where the host tells its turns
+abbrev pub AnswersAtOnce : List (List ℕ) → Seen → Seen → Type 0
+AnswersAtOnce words before after = AtEachTurn (ReadsOn words before) before after
 
 -- the words are those of a run over a schema, and a connector is attached for that
 abbrev pub IsAttachedFor : List (List ℕ) → Seen → Connected → Type 0

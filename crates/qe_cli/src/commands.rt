@@ -2,10 +2,10 @@
 ghost use Rattle.std.specs.Prelude.{◌≡◌, ◌↔◌, None, IfErr, IfOk, map, string_bytes};
 ghost use Rattle.qe_base.specs.Outside.{IsSteady};
 ghost use Rattle.qe_cli.specs.Asked.{ReadsAlone, command_of};
-ghost use Rattle.qe_cli.specs.Command.{Comes, EndsOver, SchemaComes};
+ghost use Rattle.qe_cli.specs.Command.{AsksAtMost, Comes, EndsOver, SchemaComes};
 ghost use Rattle.qe_cli.specs.Ends.{EndsFor};
 ghost use Rattle.qe_cli.specs.Refused.{HasSchema, Unread};
-ghost use Rattle.qe_cli.specs.Says.{AcceptsSchema, AnswersOver, FaultsOf, HasFault, IsApart, IsCalm, IsLong, IsShutOver, IsUnread, LaysOut, Opens, OpensSchema, RefusesText, SaysWhy, Validates};
+ghost use Rattle.qe_cli.specs.Says.{AcceptsSchema, AnswersAtOnce, AnswersOver, FaultsOf, HasFault, IsApart, IsCalm, IsLong, IsShutOver, IsUnread, LaysOut, Opens, OpensSchema, RefusesText, SaysWhy, Validates};
 ghost use Rattle.qe_node.specs.Port.{OnlyMoved};
 
 use crate::print::{print_end, say, say_layout};
@@ -68,6 +68,7 @@ fn carry_out<C: Connector, H: Host>(
     requires { (C.seen connector).attached ≡ None }
     ensures comes { Comes result.0 (map string_bytes words.now) (H.seen host.old) (H.seen host.new) (C.seen connector) (C.seen result.1) (result.1 ≡ connector) }
     ensures causes { EndsFor result.0 (H.seen host.old) (H.seen host.new) }
+    ensures asked { AsksAtMost (map string_bytes words.now) (H.seen host.old) (H.seen host.new) }
 {
     let Some((command, name)) = command_of(words) else {
         return (End::Usage, connector);
@@ -105,6 +106,8 @@ fn offline_over<C: Connector, H: Host>(
     ensures still { ReadsAlone (map string_bytes words.now) → IsUnread (H.seen host.old) (H.seen host.new) }
     ensures apart { IsApart (map string_bytes words.now) result.0 → result.1 ≡ connector }
     ensures limit { result.0 ≡ 7 → IsLong (H.seen host.old) (H.seen host.new) }
+    ensures prompt { AnswersAtOnce (map string_bytes words.now) (H.seen host.old) (H.seen host.new) }
+    ensures asked { AsksAtMost (map string_bytes words.now) (H.seen host.old) (H.seen host.new) }
 
     // A fault has its cause, and over a steady host that has the file there is none.
     ensures calm { result.0 ≡ 0 → IsCalm (H.seen host.old) (H.seen host.new) }
@@ -156,6 +159,8 @@ pub fn offline<H: Host>(
     ensures still { ReadsAlone (map string_bytes words.now) → IsUnread (H.seen host.old) (H.seen host.new) }
     ensures apart { IsApart (map string_bytes words.now) result.status → result.memory ≡ memory }
     ensures limit { result.status ≡ 7 → IsLong (H.seen host.old) (H.seen host.new) }
+    ensures prompt { AnswersAtOnce (map string_bytes words.now) (H.seen host.old) (H.seen host.new) }
+    ensures asked { AsksAtMost (map string_bytes words.now) (H.seen host.old) (H.seen host.new) }
 
     // A fault has its cause, and over a steady host that has the file there is none.
     ensures calm { result.status ≡ 0 → IsCalm (H.seen host.old) (H.seen host.new) }
@@ -193,6 +198,8 @@ pub fn command<H: Host>(
     ensures still { ReadsAlone (map string_bytes words.now) → IsUnread (H.seen host.old) (H.seen host.new) }
     ensures apart { IsApart (map string_bytes words.now) result.status → result.memory ≡ memory }
     ensures limit { result.status ≡ 7 → IsLong (H.seen host.old) (H.seen host.new) }
+    ensures prompt { AnswersAtOnce (map string_bytes words.now) (H.seen host.old) (H.seen host.new) }
+    ensures asked { AsksAtMost (map string_bytes words.now) (H.seen host.old) (H.seen host.new) }
 
     // A fault has its cause, and over a steady host that has the file there is none.
     ensures calm { result.status ≡ 0 → IsCalm (H.seen host.old) (H.seen host.new) }

@@ -1,89 +1,114 @@
--- What of the kept tables stays when one of them is set.
-use Rattle.std.proofs.Common.{◌≡◌, ℕ, zero, suc, ◌<◌, ◌==◌, ℤ, List, [], ◌∷◌, map, length, get_or, slice_set, slice_get, unwrap_or, Some, None, refl, sym, ap, ◌∙◌, arith, if◌then◌else◌, Bool, true, false}
-use Rattle.std.proofs.Math.Dec.{eqb-suc-suc}
-use Rattle.std.proofs.Math.ListN.{get_or-map}
-use Rattle.std.proofs.Math.Seq.{map-set_same}
-use Rattle.std.proofs.lemmas.List.{length-map}
-use Rattle.std.proofs.lemmas.Option.{unwrap_or-slice_get, get_or_from_slice_get}
-use Rattle.qe_base.specs.declared.value.Row.{Row}
-use Rattle.qe_base.specs.declared.value.Value.{Value}
-use Rattle.qe_base.specs.declared.schema.Table.{Table}
-use Rattle.qe_base.specs.Schemas.{Schema}
-use Rattle.qe_schema.specs.Tables.{Tables, table_at, no_table}
-use Rattle.qe_mem.specs.RowMaps.{RowMap}
-use Rattle.qe_mem.specs.Kept.{nothing_kept, empty_for, kept_at, pair_of, tables_of, columns_of, columns_for, IsKeptFor, contents_of}
-use Rattle.qe_mem.specs.declared.tables.MemTable.{MemTable}
+-- Rows under columns, beside the rows alone.
+use Rattle.std.proofs.Common.{◌≡◌, List, [], ◌∷◌, Bool, true, false, cond, refl, sym, ap, ◌∙◌, Ordering, Less, Equal, Greater, is_eq, ◌||◌, Some, option_map, find, is_some}
+use Rattle.std.specs.Prelude.{Result, Ok, Err, OnOk, OnErr}
+use mathlib.Core.Bool.{true≢false}
+use Rattle.std.specs.Ordering.{match_ordering}
+use Rattle.std.specs.List.{AllByRecursion, list_any}
+use Rattle.std.specs.List.Sorted.{IsStrictlySortedBy}
+use Rattle.std.specs.BTreeSet.{insert_key, replace_key}
+use Rattle.std.specs.BTreeMap.{is_at}
+use Rattle.std.specs.Set.{remove_key}
+use Rattle.qe_mem.specs.Keys.{keyed_cmp, row_order, stands_at, under}
+use Rattle.qe_mem.specs.Listings.{rows_in, AreKeyed}
+use Rattle.qe_mem.specs.declared.keyed.Columns.{Columns}
+use Rattle.qe_mem.specs.declared.keyed.Keyed.{Keyed}
 
--- what is the same of each table is the same at each number
-pub at_same : {X : Type 0} (f : MemTable → X) (kept others : List MemTable) → map f kept ≡ map f others → (table : ℕ) → f (kept_at kept table) ≡ f (kept_at others table)
-at_same f kept others same table =
-    sym (get_or-map f kept table (nothing_kept [])) ∙ ap (λ l. get_or l table (f (nothing_kept []))) same ∙ get_or-map f others table (nothing_kept [])
+-- what stands at a place
+module _ (cs : Columns) (k : Keyed) where
+  same_place : (y : Keyed) → y.columns ≡ cs → is_eq (keyed_cmp k y) ≡ stands_at cs k y.row
+  same_place y is = ap (λ (c : Columns). is_eq (keyed_cmp k (under c y.row))) is
 
-pub length_same : {X : Type 0} (f : MemTable → X) (kept others : List MemTable) → map f kept ≡ map f others → length kept ≡ length others
-length_same f kept others same = sym (length-map kept f) ∙ ap length same ∙ length-map others f
+  pub keyed_remove : (keys : List Keyed) → AreKeyed cs keys → AreKeyed cs (remove_key (is_at (keyed_cmp k)) keys)
+  keyed_remove [] are = tt
+  keyed_remove (y ∷ keys) are = elim (is_eq (keyed_cmp k y)) as (λ b. AreKeyed cs (cond b keys (y ∷ remove_key (is_at (keyed_cmp k)) keys))) [
+    | true ↦ are.1
+    | false ↦ (are.0, keyed_remove keys are.1)
+  ]
 
-at_set_table : (kept : List MemTable) (at : ℕ) (now : MemTable) (table : ℕ) → at < length kept → kept_at (slice_set kept at now) table ≡ (if table == at then now else kept_at kept table)
-at_set_table [] at now table lt = absurd (omega arith)
-at_set_table (x ∷ kept) zero now zero lt = refl
-at_set_table (x ∷ kept) zero now (suc table) lt = grind arith
-at_set_table (x ∷ kept) (suc at) now zero lt = grind arith
-at_set_table (x ∷ kept) (suc at) now (suc table) lt = at_set_table kept at now table (omega arith) ∙ ap (λ b. if b then now else kept_at kept table) (sym (eqb-suc-suc table at))
+  pub rows_remove : (keys : List Keyed) → AreKeyed cs keys → rows_in (remove_key (is_at (keyed_cmp k)) keys) ≡ remove_key (stands_at cs k) (rows_in keys)
+  rows_remove [] are = refl
+  rows_remove (y ∷ keys) are =
+      by_test (is_eq (keyed_cmp k y)) (rows_remove keys are.1) ∙ ap (λ b. cond b (rows_in keys) (y.row ∷ remove_key (stands_at cs k) (rows_in keys))) (same_place y are.0)
+    where
+      by_test : (b : Bool) → rows_in (remove_key (is_at (keyed_cmp k)) keys) ≡ remove_key (stands_at cs k) (rows_in keys)
+          → rows_in (cond b keys (y ∷ remove_key (is_at (keyed_cmp k)) keys)) ≡ cond b (rows_in keys) (y.row ∷ remove_key (stands_at cs k) (rows_in keys))
+      by_test true later = refl
+      by_test false later = ap (λ l. y.row ∷ l) later
 
--- what a table has after one was set
-pub at_set : {X : Type 0} (f : MemTable → X) (kept : List MemTable) (at : ℕ) (now : MemTable) → at < length kept → (table : ℕ) → f (kept_at (slice_set kept at now) table) ≡ (if table == at then f now else f (kept_at kept table))
-at_set f kept at now lt table = ap f (at_set_table kept at now table lt) ∙ by_test (table == at)
-  where
-    by_test : (b : Bool) → f (if b then now else kept_at kept table) ≡ (if b then f now else f (kept_at kept table))
-    by_test true = refl
-    by_test false = refl
+  pub rows_find : (keys : List Keyed) → AreKeyed cs keys → option_map (λ key. key.row) (find (is_at (keyed_cmp k)) keys) ≡ find (stands_at cs k) (rows_in keys)
+  rows_find [] are = refl
+  rows_find (y ∷ keys) are =
+      by_test (is_eq (keyed_cmp k y)) (rows_find keys are.1) ∙ ap (λ b. cond b (Some y.row) (find (stands_at cs k) (rows_in keys))) (same_place y are.0)
+    where
+      by_test : (b : Bool) → option_map (λ key. key.row) (find (is_at (keyed_cmp k)) keys) ≡ find (stands_at cs k) (rows_in keys)
+          → option_map (λ key. key.row) (cond b (Some y) (find (is_at (keyed_cmp k)) keys)) ≡ cond b (Some y.row) (find (stands_at cs k) (rows_in keys))
+      by_test true later = refl
+      by_test false later = later
 
--- what one table has as before, all have as before
-pub set_same : {X : Type 0} (f : MemTable → X) (kept : List MemTable) (at : ℕ) (now : MemTable) → f now ≡ f (kept_at kept at) → map f (slice_set kept at now) ≡ map f kept
-set_same f kept at now same = map-set_same f kept at now (nothing_kept []) same
+  pub rows_any : (keys : List Keyed) → AreKeyed cs keys → list_any (is_at (keyed_cmp k)) keys ≡ is_some (find (stands_at cs k) (rows_in keys))
+  rows_any [] are = refl
+  rows_any (y ∷ keys) are =
+      by_test (is_eq (keyed_cmp k y)) (rows_any keys are.1) ∙ ap (λ b. is_some (cond b (Some y.row) (find (stands_at cs k) (rows_in keys)))) (same_place y are.0)
+    where
+      by_test : (b : Bool) → list_any (is_at (keyed_cmp k)) keys ≡ is_some (find (stands_at cs k) (rows_in keys)) → b || list_any (is_at (keyed_cmp k)) keys ≡ is_some (cond b (Some y.row) (find (stands_at cs k) (rows_in keys)))
+      by_test true later = refl
+      by_test false later = later
 
-pub columns_at : (schema : Schema) (kept : List MemTable) → IsKeptFor schema.tables kept → (table : ℕ) → columns_of (kept_at kept table) ≡ columns_for (table_at schema table)
-columns_at schema kept is_for table =
-    sym (get_or-map columns_of kept table (nothing_kept []))
-    ∙ ap (λ l. get_or l table (columns_for no_table)) is_for
-    ∙ get_or-map columns_for schema.tables table no_table
-    ∙ ap columns_for (sym (unwrap_or-slice_get schema.tables table no_table))
+-- what comes under the columns
+module _ (cs : Columns) (k : Keyed) (under_them : k.columns ≡ cs) where
+  same_order : (y : Keyed) → y.columns ≡ cs → keyed_cmp k y ≡ row_order cs k.row y.row
+  same_order y is = rw (under_them, is) refl
 
-pub length_for : (schema : Schema) (kept : List MemTable) → IsKeptFor schema.tables kept → length kept ≡ length schema.tables
-length_for schema kept is_for = sym (length-map kept columns_of) ∙ ap length is_for ∙ length-map schema.tables columns_for
+  pub keyed_insert : (keys : List Keyed) → AreKeyed cs keys → AreKeyed cs (insert_key keyed_cmp keys k)
+  keyed_insert [] are = (under_them, tt)
+  keyed_insert (y ∷ keys) are = by_order (keyed_cmp k y) (keyed_insert keys are.1)
+    where
+      by_order : (o : Ordering) → AreKeyed cs (insert_key keyed_cmp keys k) → AreKeyed cs (match_ordering o (k ∷ y ∷ keys) (y ∷ keys) (y ∷ insert_key keyed_cmp keys k))
+      by_order Less later = (under_them, are)
+      by_order Equal later = are
+      by_order Greater later = (are.0, later)
 
--- tables are the same where each of their parts is
-pub same_tables : (rows others : ℕ → List Row) (last later : ℕ → ℤ) (pairs more : ℕ → List (Value × Value)) → rows ≡ others → last ≡ later → pairs ≡ more → (let tables : Tables = record { rows = rows; last = last; pairs = pairs } in tables) ≡ record { rows = others; last = later; pairs = more }
-same_tables rows others last later pairs more r l p = λ i. record { rows = r i; last = l i; pairs = p i }
+  pub rows_insert : (keys : List Keyed) → AreKeyed cs keys → rows_in (insert_key keyed_cmp keys k) ≡ insert_key (row_order cs) (rows_in keys) k.row
+  rows_insert [] are = refl
+  rows_insert (y ∷ keys) are =
+      by_order (keyed_cmp k y) (rows_insert keys are.1) ∙ ap (λ o. match_ordering o (k.row ∷ y.row ∷ rows_in keys) (y.row ∷ rows_in keys) (y.row ∷ insert_key (row_order cs) (rows_in keys) k.row)) (same_order y are.0)
+    where
+      by_order : (o : Ordering) → rows_in (insert_key keyed_cmp keys k) ≡ insert_key (row_order cs) (rows_in keys) k.row
+          → rows_in (match_ordering o (k ∷ y ∷ keys) (y ∷ keys) (y ∷ insert_key keyed_cmp keys k)) ≡ match_ordering o (k.row ∷ y.row ∷ rows_in keys) (y.row ∷ rows_in keys) (y.row ∷ insert_key (row_order cs) (rows_in keys) k.row)
+      by_order Less later = refl
+      by_order Equal later = refl
+      by_order Greater later = ap (λ l. y.row ∷ l) later
 
-pub tables_by_contents : (kept others : List MemTable) → map contents_of kept ≡ map contents_of others → tables_of kept ≡ tables_of others
-tables_by_contents kept others same =
-    same_tables _ _ _ _ _ _
-    (λ i table. (at_same contents_of kept others same table i).0)
-    (λ i table. (at_same contents_of kept others same table i).2)
-    (λ i table. map pair_of (at_same contents_of kept others same table i).1)
+  pub keyed_replace : (keys : List Keyed) → AreKeyed cs keys → AreKeyed cs (replace_key keyed_cmp keys k)
+  keyed_replace [] are = (under_them, tt)
+  keyed_replace (y ∷ keys) are = by_order (keyed_cmp k y) (keyed_replace keys are.1)
+    where
+      by_order : (o : Ordering) → AreKeyed cs (replace_key keyed_cmp keys k) → AreKeyed cs (match_ordering o (k ∷ y ∷ keys) (k ∷ keys) (y ∷ replace_key keyed_cmp keys k))
+      by_order Less later = (under_them, are)
+      by_order Equal later = (under_them, are.1)
+      by_order Greater later = (are.0, later)
 
--- empty tables
-pub columns_empty : (tables : List Table) → IsKeptFor tables (map empty_for tables)
-columns_empty [] = refl
-columns_empty (table ∷ tables) = ap (λ l. columns_for table ∷ l) (columns_empty tables)
+  pub rows_replace : (keys : List Keyed) → AreKeyed cs keys → rows_in (replace_key keyed_cmp keys k) ≡ replace_key (row_order cs) (rows_in keys) k.row
+  rows_replace [] are = refl
+  rows_replace (y ∷ keys) are =
+      by_order (keyed_cmp k y) (rows_replace keys are.1) ∙ ap (λ o. match_ordering o (k.row ∷ y.row ∷ rows_in keys) (k.row ∷ rows_in keys) (y.row ∷ replace_key (row_order cs) (rows_in keys) k.row)) (same_order y are.0)
+    where
+      by_order : (o : Ordering) → rows_in (replace_key keyed_cmp keys k) ≡ replace_key (row_order cs) (rows_in keys) k.row
+          → rows_in (match_ordering o (k ∷ y ∷ keys) (k ∷ keys) (y ∷ replace_key keyed_cmp keys k)) ≡ match_ordering o (k.row ∷ y.row ∷ rows_in keys) (k.row ∷ rows_in keys) (y.row ∷ replace_key (row_order cs) (rows_in keys) k.row)
+      by_order Less later = refl
+      by_order Equal later = refl
+      by_order Greater later = ap (λ l. y.row ∷ l) later
 
--- a table of which the places were changed alone
-pub rows_placed : (kept : List MemTable) (at : ℕ) (table : MemTable) (rows : RowMap) → table ≡ get_or kept at table → rows.columns ≡ table.rows.columns → rows.rows ≡ table.rows.rows
-    → (map contents_of (slice_set kept at (record { rows = rows; pairs = table.pairs; last = table.last })) ≡ map contents_of kept) × (map columns_of (slice_set kept at (record { rows = rows; pairs = table.pairs; last = table.last })) ≡ map columns_of kept)
-rows_placed kept at table rows is columns same = (
-  map-set_same contents_of kept at (record { rows = rows; pairs = table.pairs; last = table.last }) table (ap (λ (l : List Row). (l, table.pairs.rows, table.last)) same ∙ ap contents_of is),
-  map-set_same columns_of kept at (record { rows = rows; pairs = table.pairs; last = table.last }) table (ap (λ (l : List ℕ). (l, table.pairs.columns)) columns ∙ ap columns_of is),
-)
+  rows_above : (keys : List Keyed) → AreKeyed cs keys → AllByRecursion (λ y. keyed_cmp k y ≡ Less) keys → AllByRecursion (λ y. row_order cs k.row y ≡ Less) (rows_in keys)
+  rows_above [] are above = tt
+  rows_above (y ∷ keys) are above = (sym (same_order y are.0) ∙ above.0, rows_above keys are.1 above.1)
 
-pub pairs_placed : (kept : List MemTable) (at : ℕ) (table : MemTable) (pairs : RowMap) → table ≡ get_or kept at table → pairs.columns ≡ table.pairs.columns → pairs.rows ≡ table.pairs.rows
-    → (map contents_of (slice_set kept at (record { rows = table.rows; pairs = pairs; last = table.last })) ≡ map contents_of kept) × (map columns_of (slice_set kept at (record { rows = table.rows; pairs = pairs; last = table.last })) ≡ map columns_of kept)
-pairs_placed kept at table pairs is columns same = (
-  map-set_same contents_of kept at (record { rows = table.rows; pairs = pairs; last = table.last }) table (ap (λ (l : List Row). (table.rows.rows, l, table.last)) same ∙ ap contents_of is),
-  map-set_same columns_of kept at (record { rows = table.rows; pairs = pairs; last = table.last }) table (ap (λ (l : List ℕ). (table.rows.columns, l)) columns ∙ ap columns_of is),
-)
+pub rows_sorted : (cs : Columns) (keys : List Keyed) → AreKeyed cs keys → IsStrictlySortedBy keyed_cmp keys → IsStrictlySortedBy (row_order cs) (rows_in keys)
+unfolding IsStrictlySortedBy
+rows_sorted cs [] are sorted = tt
+rows_sorted cs (k ∷ keys) are sorted = (rows_above cs k are.0 keys are.1 sorted.0, rows_sorted cs keys are.1 sorted.1)
 
-pub found_at : (kept : List MemTable) (at : ℕ) (table : MemTable) → slice_get kept at ≡ Some table → table ≡ kept_at kept at
-found_at kept at table is = sym (get_or_from_slice_get kept at table (nothing_kept []) is)
-
-pub none_at : (kept : List MemTable) (at : ℕ) → slice_get kept at ≡ None → kept_at kept at ≡ nothing_kept []
-none_at kept at is = sym (unwrap_or-slice_get kept at (nothing_kept [])) ∙ ap (λ found. unwrap_or found (nothing_kept [])) is
+-- what can't be refused is done
+pub sure : {T E P : Type 0} (r : Result T E) (b : Bool) → OnOk r P → OnErr r (b ≡ false) → b ≡ true → P
+sure (Ok x) b ok err is = ok
+sure (Err e) b ok err is = absurd (true≢false (sym is ∙ err))

@@ -7,32 +7,43 @@ use Rattle.qe_mem.specs.Counts.{rank, made, with_call, with_fault, is_listed, fa
 use Rattle.qe_mem.specs.declared.counts.Counts.{Counts}
 use Rattle.qe_mem.specs.declared.counts.FailAt.{FailAt}
 use Rattle.qe_mem.specs.declared.counts.CallKind.{CallKind}
-use Rattle.qe_mem.specs.declared.counts.CallKind.TheVariants.{Attach, Load, Scan, Last, Apply}
+use Rattle.qe_mem.specs.declared.counts.CallKind.TheVariants.{Attach, Load, Scan, Page, Last, Apply}
 
 same_kind : (a b : CallKind) → (rank a == rank b) ≡ true → a ≡ b
 same_kind Attach Attach is = refl
 same_kind Attach Load is = cc
 same_kind Attach Scan is = cc
+same_kind Attach Page is = cc
 same_kind Attach Last is = cc
 same_kind Attach Apply is = cc
 same_kind Load Attach is = cc
 same_kind Load Load is = refl
 same_kind Load Scan is = cc
+same_kind Load Page is = cc
 same_kind Load Last is = cc
 same_kind Load Apply is = cc
 same_kind Scan Attach is = cc
 same_kind Scan Load is = cc
 same_kind Scan Scan is = refl
+same_kind Scan Page is = cc
 same_kind Scan Last is = cc
 same_kind Scan Apply is = cc
+same_kind Page Attach is = cc
+same_kind Page Load is = cc
+same_kind Page Scan is = cc
+same_kind Page Page is = refl
+same_kind Page Last is = cc
+same_kind Page Apply is = cc
 same_kind Last Attach is = cc
 same_kind Last Load is = cc
 same_kind Last Scan is = cc
+same_kind Last Page is = cc
 same_kind Last Last is = refl
 same_kind Last Apply is = cc
 same_kind Apply Attach is = cc
 same_kind Apply Load is = cc
 same_kind Apply Scan is = cc
+same_kind Apply Page is = cc
 same_kind Apply Last is = cc
 same_kind Apply Apply is = refl
 
@@ -65,26 +76,37 @@ counted_grows : (kind call : CallKind) (counts : Counts) → Grows call counts �
 counted_grows Attach Attach counts le = le
 counted_grows Attach Load counts le = same_by counts.attaches
 counted_grows Attach Scan counts le = same_by counts.attaches
+counted_grows Attach Page counts le = same_by counts.attaches
 counted_grows Attach Last counts le = same_by counts.attaches
 counted_grows Attach Apply counts le = same_by counts.attaches
 counted_grows Load Attach counts le = same_by counts.loads
 counted_grows Load Load counts le = le
 counted_grows Load Scan counts le = same_by counts.loads
+counted_grows Load Page counts le = same_by counts.loads
 counted_grows Load Last counts le = same_by counts.loads
 counted_grows Load Apply counts le = same_by counts.loads
 counted_grows Scan Attach counts le = same_by counts.scans
 counted_grows Scan Load counts le = same_by counts.scans
 counted_grows Scan Scan counts le = le
+counted_grows Scan Page counts le = same_by counts.scans
 counted_grows Scan Last counts le = same_by counts.scans
 counted_grows Scan Apply counts le = same_by counts.scans
+counted_grows Page Attach counts le = same_by counts.pages
+counted_grows Page Load counts le = same_by counts.pages
+counted_grows Page Scan counts le = same_by counts.pages
+counted_grows Page Page counts le = le
+counted_grows Page Last counts le = same_by counts.pages
+counted_grows Page Apply counts le = same_by counts.pages
 counted_grows Last Attach counts le = same_by counts.lasts
 counted_grows Last Load counts le = same_by counts.lasts
 counted_grows Last Scan counts le = same_by counts.lasts
+counted_grows Last Page counts le = same_by counts.lasts
 counted_grows Last Last counts le = le
 counted_grows Last Apply counts le = same_by counts.lasts
 counted_grows Apply Attach counts le = same_by counts.applies
 counted_grows Apply Load counts le = same_by counts.applies
 counted_grows Apply Scan counts le = same_by counts.applies
+counted_grows Apply Page counts le = same_by counts.applies
 counted_grows Apply Last counts le = same_by counts.applies
 counted_grows Apply Apply counts le = le
 
@@ -92,6 +114,7 @@ fault_leaves : (kind : CallKind) (counts : Counts) → made kind (with_fault cou
 fault_leaves Attach counts = refl
 fault_leaves Load counts = refl
 fault_leaves Scan counts = refl
+fault_leaves Page counts = refl
 fault_leaves Last counts = refl
 fault_leaves Apply counts = refl
 
@@ -103,6 +126,7 @@ same_list : (call : CallKind) (counts : Counts) → (with_call call counts).fail
 same_list Attach counts = refl
 same_list Load counts = refl
 same_list Scan counts = refl
+same_list Page counts = refl
 same_list Last counts = refl
 same_list Apply counts = refl
 
@@ -120,6 +144,7 @@ same_faults : (call : CallKind) (counts : Counts) → (with_call call counts).fa
 same_faults Attach counts = refl
 same_faults Load counts = refl
 same_faults Scan counts = refl
+same_faults Page counts = refl
 same_faults Last counts = refl
 same_faults Apply counts = refl
 

@@ -6,24 +6,26 @@ use Rattle.qe_view.specs.Calls.{CallCounts, more}
 use Rattle.qe_mem.specs.declared.counts.Counts.{Counts}
 use Rattle.qe_mem.specs.declared.counts.FailAt.{FailAt}
 use Rattle.qe_mem.specs.declared.counts.CallKind.{CallKind}
-use Rattle.qe_mem.specs.declared.counts.CallKind.TheVariants.{Attach, Load, Scan, Last, Apply}
+use Rattle.qe_mem.specs.declared.counts.CallKind.TheVariants.{Attach, Load, Scan, Page, Last, Apply}
 
 -- none was made yet
 abbrev pub no_calls : List FailAt → Counts
-no_calls fail = record { fail = fail; attaches = 0; loads = 0; scans = 0; lasts = 0; applies = 0; faults = 0 }
+no_calls fail = record { fail = fail; attaches = 0; loads = 0; scans = 0; pages = 0; lasts = 0; applies = 0; faults = 0 }
 
 abbrev pub rank : CallKind → ℕ
 rank Attach = 0
 rank Load = 1
 rank Scan = 2
-rank Last = 3
-rank Apply = 4
+rank Page = 3
+rank Last = 4
+rank Apply = 5
 
 -- how many calls of a kind were made
 abbrev pub made : CallKind → Counts → ℕ
 made Attach counts = counts.attaches
 made Load counts = counts.loads
 made Scan counts = counts.scans
+made Page counts = counts.pages
 made Last counts = counts.lasts
 made Apply counts = counts.applies
 
@@ -31,6 +33,7 @@ abbrev pub with_call : CallKind → Counts → Counts
 with_call Attach counts = record counts { attaches = more counts.attaches }
 with_call Load counts = record counts { loads = more counts.loads }
 with_call Scan counts = record counts { scans = more counts.scans }
+with_call Page counts = record counts { pages = more counts.pages }
 with_call Last counts = record counts { lasts = more counts.lasts }
 with_call Apply counts = record counts { applies = more counts.applies }
 
@@ -58,4 +61,4 @@ after_call call counts = if fails_next call counts then with_fault (with_call ca
 
 -- the calls that the connector tells
 abbrev pub calls_of : Counts → CallCounts
-calls_of counts = record { loads = counts.loads; scans = counts.scans; lasts = counts.lasts; applies = counts.applies }
+calls_of counts = record { loads = counts.loads; scans = counts.scans; pages = counts.pages; lasts = counts.lasts; applies = counts.applies }

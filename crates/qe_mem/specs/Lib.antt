@@ -1,5 +1,10 @@
 pub mod Counts
+pub mod Each
+pub mod Gathered
 pub mod Kept
+pub mod Keys
+pub mod KeyOrder
+pub mod Listings
 pub mod Mem
-pub mod RowMaps
-pub mod Steps
+pub mod Plans
+pub mod Turns

@@ -1,7 +1,7 @@
 //! The connector in memory.
 use crate::counts::{CallKind, Counts, FailAt};
 use crate::tables::MemTables;
-use qe_base::{Row, Rows, TableId};
+use qe_base::{ColumnTest, Row, Rows, TableId};
 use qe_text::{Items, Memory, Text};
 use qe_view::{AttachFault, Change, ConnFault, Connector, Layout};
 use std::alloc::Global;
@@ -69,14 +69,16 @@ impl MemConnector {
 }
 
 impl Connector for MemConnector {
-    ghost use Rattle.std.specs.Prelude.{◌≡◌, ◌↔◌, None, true, OnErr, IsErrOf};
-    ghost use Rattle.qe_view.specs.After.{rows_in, rows_at};
+    ghost use Rattle.std.specs.Prelude.{◌≡◌, ◌↔◌, None, true, OnOk, OnErr, IsErrOf};
+    ghost use Rattle.std.specs.Option.{option_copied};
+    ghost use Rattle.qe_view.specs.After.{rows_at, rows_passing};
     ghost use Rattle.qe_view.specs.Answers.{GivesRows, RowsFit, GivesLast, OnlyAsked, Applies};
-    ghost use Rattle.qe_view.specs.Calls.{with_load, with_scan, with_last};
-    ghost use Rattle.qe_view.specs.Attached.{Attaches, HasTable, CanLoad, CanApply, OfShapes};
+    ghost use Rattle.qe_view.specs.Calls.{with_load, with_scan, with_page, with_last};
+    ghost use Rattle.qe_view.specs.Attached.{Attaches, HasTable, CanLoad, CanScan, CanPage, CanApply, OfShapes};
     ghost use Rattle.qe_mem.specs.Counts.{fails_next, after_call};
     ghost use Rattle.qe_mem.specs.declared.counts.CallKind.TheVariants as call;
-    ghost use Rattle.qe_mem.specs.Mem.{mem_seen, mem_counts};
+    ghost use Rattle.qe_mem.specs.Kept.{AreExact, HasOrdersFor};
+    ghost use Rattle.qe_mem.specs.Mem.{mem_seen, mem_counts, mem_kept, GivesPage};
 
     ghost seen = { mem_seen };
 
@@ -84,13 +86,15 @@ impl Connector for MemConnector {
         requires { (mem_seen self.old).attached ≡ None }
         ensures attaches { Attaches place.now layout.now (mem_seen self.old) (mem_seen self.new) result }
         ensures same { OnErr result (mem_seen self.new ≡ record (mem_seen self.old) { faults = (mem_seen self.new).faults }) }
+        ensures orders { OnOk result (HasOrdersFor layout.now (mem_kept self.new)) }
+        ensures exact { AreExact (mem_kept self.new) }
         ensures exactly { IsErrOf result AttachFault.Failed ↔ (fails_next call.Attach (mem_counts self.old) ≡ true) }
         ensures counted { mem_counts self.new ≡ after_call call.Attach (mem_counts self.old) }
     {
         if self.counts.begin(CallKind::Attach) {
             return Err(AttachFault::Failed);
         }
-        let tables = MemTables::empty(self.alloc, layout.table_list())?;
+        let tables = MemTables::empty(self.alloc, layout)?;
         let place = Text::from_str(self.alloc, place)?;
         let layout = layout.copy(self.alloc)?;
         self.attached = Some(Attached { place, layout });
@@ -113,9 +117,9 @@ impl Connector for MemConnector {
         Ok(Rows { rows })
     }
 
-    fn scan(&mut self, table: TableId) -> Result<Rows, ConnFault>
-        requires { HasTable (mem_seen self.old) table.0 }
-        ensures rows { GivesRows (mem_seen self.old).told (λ tables. rows_in tables table.0) result }
+    fn scan(&mut self, table: TableId, tests: &[ColumnTest]) -> Result<Rows, ConnFault>
+        requires { CanScan (mem_seen self.old) table.0 tests.now }
+        ensures rows { GivesRows (mem_seen self.old).told (rows_passing tests.now table.0) result }
         ensures rows_fit { OfShapes (mem_seen self.old) (λ shapes. RowsFit shapes table.0 result) }
         ensures others { OnlyAsked with_scan (mem_seen self.old) (mem_seen self.new) result }
         ensures exactly { IsErrOf result ConnFault.Failed ↔ (fails_next call.Scan (mem_counts self.old) ≡ true) }
@@ -124,7 +128,28 @@ impl Connector for MemConnector {
         if self.counts.begin(CallKind::Scan) {
             return Err(ConnFault::Failed);
         }
-        let rows = self.tables.all(table)?;
+        let rows = self.tables.passing(table, tests)?;
+        Ok(Rows { rows })
+    }
+
+    fn page(
+        &mut self,
+        table: TableId,
+        from: Option<&Row>,
+        backward: bool,
+        count: usize,
+    ) -> Result<Rows, ConnFault>
+        requires { CanPage (mem_seen self.old) table.0 (option_copied from) }
+        ensures rows { GivesPage (mem_seen self.old) (option_copied from.entry) backward count table.0 result }
+        ensures rows_fit { OfShapes (mem_seen self.old) (λ shapes. RowsFit shapes table.0 result) }
+        ensures others { OnlyAsked with_page (mem_seen self.old) (mem_seen self.new) result }
+        ensures exactly { IsErrOf result ConnFault.Failed ↔ (fails_next call.Page (mem_counts self.old) ≡ true) }
+        ensures counted { mem_counts self.new ≡ after_call call.Page (mem_counts self.old) }
+    {
+        if self.counts.begin(CallKind::Page) {
+            return Err(ConnFault::Failed);
+        }
+        let rows = self.tables.page(table, from, backward, count)?;
         Ok(Rows { rows })
     }
 
@@ -144,15 +169,15 @@ impl Connector for MemConnector {
     fn apply(&mut self, changes: &[Change]) -> Result<(), ConnFault>
         requires { CanApply (mem_seen self.old) changes.now }
         ensures applies { Applies changes.now (mem_seen self.old) (mem_seen self.new) result }
+        ensures same { OnErr result (mem_kept self.new ≡ mem_kept self.old) }
+        ensures exact { AreExact (mem_kept self.new) }
         ensures exactly { IsErrOf result ConnFault.Failed ↔ (fails_next call.Apply (mem_counts self.old) ≡ true) }
         ensures counted { mem_counts self.new ≡ after_call call.Apply (mem_counts self.old) }
     {
         if self.counts.begin(CallKind::Apply) {
             return Err(ConnFault::Failed);
         }
-        if let Some(attached) = &self.attached {
-            self.tables.apply(&attached.layout, changes)?;
-        }
+        self.tables.apply(changes)?;
         Ok(())
     }
 

@@ -11,6 +11,7 @@ pub enum CallKind {
     Attach,
     Load,
     Scan,
+    Page,
     Last,
     Apply,
 }
@@ -29,6 +30,7 @@ pub struct Counts {
     attaches: u64,
     loads: u64,
     scans: u64,
+    pages: u64,
     lasts: u64,
     applies: u64,
     faults: u64,
@@ -44,8 +46,9 @@ impl CallKind {
             CallKind::Attach => 0,
             CallKind::Load => 1,
             CallKind::Scan => 2,
-            CallKind::Last => 3,
-            CallKind::Apply => 4,
+            CallKind::Page => 3,
+            CallKind::Last => 4,
+            CallKind::Apply => 5,
         }
     }
 }
@@ -62,6 +65,7 @@ impl Counts {
             attaches: 0,
             loads: 0,
             scans: 0,
+            pages: 0,
             lasts: 0,
             applies: 0,
             faults: 0,
@@ -83,6 +87,7 @@ impl Counts {
             CallKind::Attach => self.attaches,
             CallKind::Load => self.loads,
             CallKind::Scan => self.scans,
+            CallKind::Page => self.pages,
             CallKind::Last => self.lasts,
             CallKind::Apply => self.applies,
         }
@@ -97,6 +102,7 @@ impl Counts {
             CallKind::Attach => self.attaches = self.attaches.saturating_add(1),
             CallKind::Load => self.loads = self.loads.saturating_add(1),
             CallKind::Scan => self.scans = self.scans.saturating_add(1),
+            CallKind::Page => self.pages = self.pages.saturating_add(1),
             CallKind::Last => self.lasts = self.lasts.saturating_add(1),
             CallKind::Apply => self.applies = self.applies.saturating_add(1),
         }

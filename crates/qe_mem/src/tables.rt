@@ -1,31 +1,22 @@
-//! The tables of a schema.
-ghost use Rattle.std.specs.Prelude.{◌≡◌, [], ◌++◌, true, IfOk, IfSome, IfNone, OnOk, OnErr, map, filter};
-ghost use Rattle.std.specs.List.{All, AllByRecursion};
-ghost use Rattle.qe_view.specs.After.{after_all, is_wanted, rows_in, rows_at};
-ghost use Rattle.qe_view.specs.Right.{are_right};
-ghost use Rattle.qe_schema.specs.Tables.{table_at, id_columns as columns_of_id};
-ghost use Rattle.qe_view.specs.Attached.{shapes_of};
-ghost use Rattle.qe_mem.specs.Kept.{nothing_kept, empty_for, kept_at, tables_of, columns_of, contents_of, IsKeptFor, ArePairs};
-ghost use Rattle.qe_mem.specs.Steps.{step_of, stepped, stepped_all, IsWithin, HasItsId, TakesNoMemory};
-ghost use Rattle.qe_mem.specs.declared.step.Step.{Step as StepSeen};
+//! The tables of a layout.
+ghost use Rattle.std.specs.Prelude.{◌≡◌, [], IfOk, OnOk, OnErr, Option, map, slice_get};
+ghost use Rattle.std.specs.Option.{option_copied};
+ghost use Rattle.qe_view.specs.After.{pair_row as row_of_pair, rows_at, rows_passing};
+ghost use Rattle.qe_mem.specs.Each.{each, AllOfBoth};
+ghost use Rattle.qe_mem.specs.Kept.{empty_tables, tables_of, columns_of, orders_of, AreExact, ArePairs, MakesRight, IsPageOf};
+ghost use Rattle.qe_mem.specs.Plans.{step_of, gone_step, come_step, noted, noted_all, plans_for, raised, raised_all};
+ghost use Rattle.qe_mem.specs.Plans.{entered_table, left_table, settled_table, CanEnterTable, CanSettleTable};
 
-use crate::row_map::RowMap;
-use crate::step::Step;
-use qe_base::{Row, Table, TableId};
+use crate::empty::empty_table;
+use crate::pending::{Pending, Step};
+use crate::table::{MemTable, Plan};
+use qe_base::{ColumnTest, Row, TableId, Value};
 use qe_text::{Items, Memory};
-use qe_view::{Change, Layout, id_row, pair_row};
+use qe_view::{Change, Layout};
 use std::alloc::Global;
 use std::marker::Model;
 
-/// One table: the rows of a model and its counter, or the pairs of a link table as rows of two values.
-#[derive(Drop)]
-pub struct MemTable {
-    pub rows: RowMap,
-    pub pairs: RowMap,
-    pub last: i64,
-}
-
-/// The tables of a schema, by their numbers.
+/// The tables of a layout, by their numbers. Contracts see them as a list.
 #[derive(Drop)]
 pub struct MemTables {
     alloc: Global,
@@ -34,139 +25,21 @@ pub struct MemTables {
 
 impl Model for MemTables {
     ghost use Rattle.std.specs.Prelude.{List};
-    ghost use Rattle.qe_mem.specs.declared.tables.MemTable.{MemTable};
+    ghost use Rattle.qe_mem.specs.declared.table.MemTable.{MemTable};
 
     ghost Value = { List MemTable };
 
     ghost view = { λ m. m.tables.items };
 }
 
-/// A table with nothing in it, whose ids have these columns.
-fn nothing_kept(alloc: Global, columns: &[u16]) -> Result<MemTable, Memory>
-    ensures { IfOk result (λ table. table ≡ nothing_kept columns.now) }
+/// A pair as a row, with no room to spare.
+fn pair_row(alloc: Global, a: &Value, b: &Value) -> Result<Row, Memory>
+    ensures { IfOk result (λ row. row ≡ row_of_pair (a.now, b.now)) }
 {
-    Ok(MemTable {
-        rows: RowMap::new(alloc, Items::from_slice(alloc, columns)?),
-        pairs: RowMap::new(alloc, Items::from_slice(alloc, &[0, 1])?),
-        last: 0,
-    })
-}
-
-/// The columns of a table's id, which is its first key.
-fn id_columns(table: &Table) -> &[u16]
-    ensures { result.now ≡ columns_of_id table.now }
-{
-    match table.keys.as_slice() {
-        [] => &[],
-        [key, ..] => key.columns.as_slice(),
-    }
-}
-
-/// The columns of the id of a table of a number.
-fn id_columns_at(layout: &Layout, table: TableId) -> &[u16]
-    ensures { result.now ≡ columns_of_id (table_at (shapes_of layout.now) table.0) }
-{
-    match layout.shape(table) {
-        Some(shape) => id_columns(shape),
-        None => &[],
-    }
-}
-
-/// The step that makes a change.
-fn step(alloc: Global, layout: &Layout, change: &Change) -> Result<Step, Memory>
-    ensures { IfOk result (λ step. step ≡ step_of (shapes_of layout.now) change.now) }
-{
-    match change {
-        Change::Remove { table, id } => Ok(Step::Row {
-            table: *table,
-            id: id.copy(alloc)?,
-            row: None,
-        }),
-        Change::Put { table, row } => Ok(Step::Row {
-            table: *table,
-            id: id_row(alloc, id_columns_at(layout, *table), row)?,
-            row: Some(row.copy(alloc)?),
-        }),
-        Change::Unlink { table, a, b } => Ok(Step::Pair {
-            table: *table,
-            id: pair_row(alloc, a, b)?,
-            pair: None,
-        }),
-        Change::Link { table, a, b } => Ok(Step::Pair {
-            table: *table,
-            id: pair_row(alloc, a, b)?,
-            pair: Some(pair_row(alloc, a, b)?),
-        }),
-        Change::Counter { table, last } => Ok(Step::Last {
-            table: *table,
-            last: *last,
-        }),
-    }
-}
-
-/// The steps that make changes.
-fn steps(alloc: Global, layout: &Layout, changes: &[Change]) -> Result<Vec<Step>, Memory>
-    ensures { IfOk result (λ steps. steps.items ≡ map (step_of (shapes_of layout.now)) changes.now) }
-{
-    let mut steps = Vec::new(alloc);
-    for change in changes {
-        steps.push(step(alloc, layout, change)?)?;
-    }
-    Ok(steps)
-}
-
-/// Another step that leaves nothing at the same id.
-fn copy_bare(alloc: Global, step: &Step) -> Result<Option<Step>, Memory> {
-    match step {
-        Step::Row {
-            table,
-            id,
-            row: None,
-        } => Ok(Some(Step::Row {
-            table: *table,
-            id: id.copy(alloc)?,
-            row: None,
-        })),
-        Step::Pair {
-            table,
-            id,
-            pair: None,
-        } => Ok(Some(Step::Pair {
-            table: *table,
-            id: id.copy(alloc)?,
-            pair: None,
-        })),
-        _ => Ok(None),
-    }
-}
-
-/// Copies of the steps that leave nothing at their ids.
-fn gone(alloc: Global, steps: &[Step]) -> Result<Vec<Step>, Memory> {
-    let mut gone = Vec::new(alloc);
-    for step in steps {
-        if let Some(bare) = copy_bare(alloc, step)? {
-            gone.push(bare)?;
-        }
-    }
-    Ok(gone)
-}
-
-/// Copies of the rows of a table and of its pairs.
-fn all_in(kept: &MemTable) -> Result<Items<Row>, Memory>
-    ensures { IfOk result (λ rows. rows ≡ kept.now.rows.rows ++ kept.now.pairs.rows) }
-{
-    let mut rows = kept.rows.all()?;
-    rows.append(kept.pairs.all()?)?;
-    Ok(rows)
-}
-
-/// Copies of those that have one of the keys in the columns.
-fn wanted_in(kept: &MemTable, columns: &[u16], keys: &[Row]) -> Result<Items<Row>, Memory>
-    ensures { IfOk result (λ rows. rows ≡ filter (is_wanted columns.now keys.now) kept.now.rows.rows ++ filter (is_wanted columns.now keys.now) kept.now.pairs.rows) }
-{
-    let mut rows = kept.rows.wanted(columns, keys)?;
-    rows.append(kept.pairs.wanted(columns, keys)?)?;
-    Ok(rows)
+    let mut values = Vec::with_capacity(alloc, 2)?;
+    values.push(a.share()?)?;
+    values.push(b.share()?)?;
+    Row::new(alloc, Items::from_vec(values))
 }
 
 impl MemTables {
@@ -180,154 +53,215 @@ impl MemTables {
         }
     }
 
-    /// Tables with nothing in them.
-    pub fn empty(alloc: Global, shapes: &[Table]) -> Result<MemTables, Memory>
-        ensures { IfOk result (λ kept. kept ≡ map empty_for shapes.now) }
+    /// The tables of a layout, with nothing in them.
+    pub fn empty(alloc: Global, layout: &Layout) -> Result<MemTables, Memory>
+        ensures { IfOk result (λ kept. kept ≡ empty_tables layout.now) }
     {
         let mut tables = Vec::new(alloc);
-        for table in shapes {
-            tables.push(nothing_kept(alloc, id_columns(table))?)?;
+        let _count = layout.tables();
+        for (number, table) in layout.table_list().iter().enumerate() {
+            tables.push(empty_table(alloc, layout, TableId(number as u16), table)?)?;
         }
         Ok(MemTables { alloc, tables })
     }
 
-    /// Gives the id of a step a place.
-    fn reserve(&mut self, step: &Step) -> Result<(), Memory>
-        requires within { IsWithin self.old step.now }
-        requires sound { HasItsId self.old step.now }
-        ensures contents { map contents_of self.new ≡ map contents_of self.old }
-        ensures columns { map columns_of self.new ≡ map columns_of self.old }
-        ensures ready { OnOk result (TakesNoMemory self.new step.now) }
-        ensures kept { (other : StepSeen) → TakesNoMemory self.old other → TakesNoMemory self.new other }
-    {
-        match step {
-            Step::Row { table, id, .. } => self.tables[table.0 as usize].rows.reserve(id),
-            Step::Pair { table, id, .. } => self.tables[table.0 as usize].pairs.reserve(id),
-            Step::Last { .. } => Ok(()),
-        }
-    }
-
-    /// Gives the ids of steps places.
-    fn reserve_all(&mut self, steps: &[Step]) -> Result<(), Memory>
-        requires within { All (IsWithin self.old) steps.now }
-        requires sound { All (HasItsId self.old) steps.now }
-        ensures contents { map contents_of self.new ≡ map contents_of self.old }
-        ensures columns { map columns_of self.new ≡ map columns_of self.old }
-        ensures ready { OnOk result (All (TakesNoMemory self.new) steps.now) }
-    {
-        for step in steps {
-            self.reserve(step)?;
-        }
-        Ok(())
-    }
-
-    /// Takes the place of a step's id away, where nothing stands there.
-    fn sweep(&mut self, step: &Step)
-        ensures contents { map contents_of self.new ≡ map contents_of self.old }
-        ensures columns { map columns_of self.new ≡ map columns_of self.old }
-    {
-        match step {
-            Step::Row { table, id, .. } => {
-                if (table.0 as usize) < self.tables.len() {
-                    self.tables[table.0 as usize].rows.sweep(id);
-                }
-            }
-            Step::Pair { table, id, .. } => {
-                if (table.0 as usize) < self.tables.len() {
-                    self.tables[table.0 as usize].pairs.sweep(id);
-                }
-            }
-            Step::Last { .. } => {}
-        }
-    }
-
-    /// Takes the places away at which nothing stands.
-    fn sweep_all(&mut self, steps: &[Step])
-        ensures contents { map contents_of self.new ≡ map contents_of self.old }
-        ensures columns { map columns_of self.new ≡ map columns_of self.old }
-    {
-        for step in steps {
-            self.sweep(step);
-        }
-    }
-
-    /// Makes a step that is ready.
-    fn set(&mut self, step: Step)
-        requires { TakesNoMemory self.old step }
-        ensures { self.new ≡ stepped step self.old }
-    {
-        match step {
-            Step::Row { table, id, row } => self.tables[table.0 as usize].rows.set(id, row),
-            Step::Pair { table, id, pair } => self.tables[table.0 as usize].pairs.set(id, pair),
-            Step::Last { table, last } => {
-                let kept = &mut self.tables[table.0 as usize];
-                kept.last = kept.last.max(last);
-            }
-        }
-    }
-
-    /// Makes steps that are ready.
-    fn set_all(&mut self, steps: Vec<Step>)
-        requires { AllByRecursion (TakesNoMemory self.old) steps.items }
-        ensures { self.new ≡ stepped_all steps.items self.old }
-    {
-        for step in steps {
-            self.set(step);
-        }
-    }
-
-    /// Makes all changes or none.
-    pub fn apply(&mut self, layout: &Layout, changes: &[Change]) -> Result<(), Memory>
-        requires kept { IsKeptFor layout.now.tables self.old }
-        requires right { are_right (shapes_of layout.now) changes.now ≡ true }
-        requires pairs { ArePairs self.old }
-        ensures ok { OnOk result (tables_of self.new ≡ after_all (shapes_of layout.now) changes.now (tables_of self.old)) }
-        ensures err { OnErr result (tables_of self.new ≡ tables_of self.old) }
-        ensures kept { IsKeptFor layout.now.tables self.new }
-        ensures pairs { ArePairs self.new }
-    {
-        let steps = steps(self.alloc, layout, changes)?;
-        let gone = gone(self.alloc, &steps)?;
-        if let Err(memory) = self.reserve_all(&steps) {
-            self.sweep_all(&steps);
-            return Err(memory);
-        }
-        self.set_all(steps);
-        self.sweep_all(&gone);
-        Ok(())
-    }
-
     /// The table of a number, or None where there is no such number.
     fn at(&self, table: TableId) -> Option<&MemTable>
-        ensures found { IfSome result (λ kept. kept.now ≡ kept_at self.now table.0) }
-        ensures none { IfNone result (kept_at self.now table.0 ≡ nothing_kept []) }
+        ensures { option_copied result ≡ slice_get self.now table.0 }
     {
         self.tables.get(table.0 as usize)
     }
 
-    /// Copies of all rows of a table, where the rows of a link table are its pairs.
-    pub fn all(&self, table: TableId) -> Result<Items<Row>, Memory>
-        requires { ArePairs self.now }
-        ensures { IfOk result (λ rows. rows ≡ rows_in (tables_of self.now) table.0) }
+    /// The step by which the row of an id goes.
+    fn gone(&self, table: TableId, id: &Row) -> Result<Option<Step>, Memory>
+        ensures { IfOk result (λ step. step ≡ gone_step table id.now (slice_get self.now table.0)) }
     {
         match self.at(table) {
-            Some(kept) => all_in(kept),
-            None => Ok(Items::new(self.alloc)),
+            None => Ok(None),
+            Some(kept) => Ok(Some(Step {
+                table,
+                place: kept.rows.place(id)?,
+                row: None,
+            })),
         }
     }
 
-    /// Copies of the rows of a table that have one of the keys in the columns.
+    /// The step by which a row comes.
+    fn come(&self, table: TableId, row: &Row) -> Result<Option<Step>, Memory>
+        ensures { IfOk result (λ step. step ≡ come_step table row.now (slice_get self.now table.0)) }
+    {
+        match self.at(table) {
+            None => Ok(None),
+            Some(kept) => Ok(Some(Step {
+                table,
+                place: kept.rows.keyed(row)?,
+                row: Some(row.share()?),
+            })),
+        }
+    }
+
+    /// The step that a change comes to, if it is one of rows or of pairs.
+    fn step(&self, change: &Change) -> Result<Option<Step>, Memory>
+        ensures { IfOk result (λ step. step ≡ step_of self.now change.now) }
+    {
+        match change {
+            Change::Remove { table, id } => self.gone(*table, id),
+            Change::Put { table, row } => self.come(*table, row),
+            Change::Unlink { table, a, b } => {
+                let pair = pair_row(self.alloc, a, b)?;
+                self.gone(*table, &pair)
+            }
+            Change::Link { table, a, b } => {
+                let pair = pair_row(self.alloc, a, b)?;
+                self.come(*table, &pair)
+            }
+            Change::Counter { .. } => Ok(None),
+        }
+    }
+
+    /// What is to stand in each table.
+    fn pendings(&self, changes: &[Change]) -> Result<Vec<Pending>, Memory>
+        ensures { IfOk result (λ all. all.items ≡ noted_all self.now changes.now (map (λ table. []) self.now)) }
+    {
+        let mut pendings = Vec::new(self.alloc);
+        for _table in &self.tables {
+            pendings.push(Pending::new(self.alloc))?;
+        }
+        for change in changes {
+            note(&mut pendings, self.step(change)?)?;
+        }
+        Ok(pendings)
+    }
+
+    /// The plans by which that comes to stand in each table.
+    fn plans(&self, changes: &[Change]) -> Result<Items<Plan>, Memory>
+        ensures { IfOk result (λ plans. plans ≡ plans_for (noted_all self.now changes.now (map (λ table. []) self.now)) self.now) }
+    {
+        let pendings = self.pendings(changes)?;
+        let mut plans = Items::new(self.alloc);
+        for pending in pendings {
+            if let Some(table) = self.tables.get(plans.len()) {
+                plans.push(table.plan(pending)?)?;
+            }
+        }
+        Ok(plans)
+    }
+
+    /// Enters in all orders what comes to places of its own, or nothing in any.
+    fn enter(&mut self, plans: &[Plan]) -> Result<(), Memory>
+        requires { AllOfBoth CanEnterTable plans.now self.old }
+        ensures ok { OnOk result (self.new ≡ each entered_table plans.now self.old) }
+        ensures err { OnErr result (self.new ≡ self.old) }
+    {
+        let mut done = 0;
+        'tables: while done < plans.len() {
+            if let Err(memory) = self.tables[done].enter(&plans[done]) {
+                self.leave(&plans[..done]);
+                return Err(memory);
+            }
+            done += 1;
+        }
+        Ok(())
+    }
+
+    /// Takes out of all orders what was entered.
+    fn leave(&mut self, plans: &[Plan])
+        ensures { self.new ≡ each left_table plans.now self.old }
+    {
+        let mut left = plans.len();
+        'tables: while left > 0 {
+            left -= 1;
+            if left < self.tables.len() {
+                self.tables[left].leave(&plans[left]);
+            }
+        }
+    }
+
+    /// Takes out of all orders what goes, and puts what takes its place.
+    fn settle(&mut self, plans: Items<Plan>)
+        requires { AllOfBoth CanSettleTable plans self.old }
+        ensures { self.new ≡ each settled_table plans self.old }
+    {
+        let mut plans = plans;
+        'tables: while let Some(plan) = plans.pop() {
+            let at = plans.len();
+            self.tables[at].settle(plan);
+        }
+    }
+
+    /// Raises a counter, where the change is one of a counter.
+    fn raise(&mut self, change: &Change)
+        ensures { self.new ≡ raised change.now self.old }
+    {
+        if let Change::Counter { table, last } = change {
+            let at = table.0 as usize;
+            if at < self.tables.len() {
+                let kept = &mut self.tables[at];
+                kept.last = kept.last.max(*last);
+            }
+        }
+    }
+
+    /// Makes all changes or none. What is kept is the rows alone and their entries in each order, also
+    /// after a refusal half way: then all is as it was.
+    pub fn apply(&mut self, changes: &[Change]) -> Result<(), Memory>
+        requires { AreExact self.old }
+        ensures ok { OnOk result (MakesRight changes.now self.old self.new) }
+        ensures err { OnErr result (self.new ≡ self.old) }
+        ensures exact { AreExact self.new }
+        ensures columns { map columns_of self.new ≡ map columns_of self.old }
+        ensures orders { map orders_of self.new ≡ map orders_of self.old }
+    {
+        let plans = self.plans(changes)?;
+        self.enter(plans.as_slice())?;
+        self.settle(plans);
+        for change in changes {
+            self.raise(change);
+        }
+        Ok(())
+    }
+
+    /// The rows of a table that have one of the keys in the columns, where the rows of a link table are its
+    /// pairs.
     pub fn wanted(
         &self,
         table: TableId,
         columns: &[u16],
         keys: &[Row],
     ) -> Result<Items<Row>, Memory>
-        requires { ArePairs self.now }
+        requires exact { AreExact self.now }
+        requires pairs { ArePairs self.now }
         ensures { IfOk result (λ rows. rows ≡ rows_at columns.now keys.now table.0 (tables_of self.now)) }
     {
         match self.at(table) {
-            Some(kept) => wanted_in(kept, columns, keys),
+            Some(kept) => kept.wanted(columns, keys),
+            None => Ok(Items::new(self.alloc)),
+        }
+    }
+
+    /// The rows of a table that pass the tests.
+    pub fn passing(&self, table: TableId, tests: &[ColumnTest]) -> Result<Items<Row>, Memory>
+        requires { ArePairs self.now }
+        ensures { IfOk result (λ rows. rows ≡ rows_passing tests.now table.0 (tables_of self.now)) }
+    {
+        match self.at(table) {
+            Some(kept) => kept.rows.passing(tests),
+            None => Ok(Items::new(self.alloc)),
+        }
+    }
+
+    /// At most so many rows of a model from an id on, or up to it, the last one first.
+    pub fn page(
+        &self,
+        table: TableId,
+        from: Option<&Row>,
+        backward: bool,
+        count: usize,
+    ) -> Result<Items<Row>, Memory>
+        ensures { IfOk result (IsPageOf self.now table.0 (option_copied from.entry) backward count) }
+    {
+        match self.at(table) {
+            Some(kept) => kept.rows.page(from, backward, count),
             None => Ok(Items::new(self.alloc)),
         }
     }
@@ -341,4 +275,17 @@ impl MemTables {
             None => 0,
         }
     }
+}
+
+/// Notes what is to stand at an id.
+fn note(pendings: &mut Vec<Pending>, step: Option<Step>) -> Result<(), Memory>
+    ensures { OnOk result (pendings.new.items ≡ noted step pendings.old.items) }
+{
+    if let Some(step) = step {
+        let at = step.table.0 as usize;
+        if at < pendings.len() {
+            pendings[at].set(step.place, step.row)?;
+        }
+    }
+    Ok(())
 }

@@ -42,13 +42,13 @@ pub moved_none : (a : Seen) → OnlyMoved a a
 moved_none a = refl
 
 pub moved_more : (a b c : Seen) → OnlyMoved a b → OnlyMoved b c → OnlyMoved a c
-moved_more a b c first second = second ∙ ap (λ (x : Seen). record x { left = c.left; taken = c.taken; reads = c.reads; writes = c.writes }) first
+moved_more a b c first second = second ∙ ap (λ (x : Seen). record x { left = c.left; taken = c.taken; turns = c.turns; reads = c.reads; writes = c.writes }) first
 
 pub moved_read : (a b c : Seen) → OnlyMoved a b → OnlyRead b c → OnlyMoved a c
-moved_read a b c first second = moved_more a b c first (ap (λ (x : Seen). record x { left = c.left; taken = c.taken; reads = c.reads; writes = c.writes }) second)
+moved_read a b c first second = moved_more a b c first (ap (λ (x : Seen). record x { left = c.left; taken = c.taken; turns = c.turns; reads = c.reads; writes = c.writes }) second)
 
 pub moved_wrote : (a b c : Seen) → OnlyMoved a b → OnlyWrote b c → OnlyMoved a c
-moved_wrote a b c first second = moved_more a b c first (ap (λ (x : Seen). record x { left = c.left; taken = c.taken; reads = c.reads; writes = c.writes }) second)
+moved_wrote a b c first second = moved_more a b c first (ap (λ (x : Seen). record x { left = c.left; taken = c.taken; turns = c.turns; reads = c.reads; writes = c.writes }) second)
 
 pub wrote_none : (a : Seen) → Wrote a a ⊥
 wrote_none a = record { cause = cause_none a.writes; others = refl }

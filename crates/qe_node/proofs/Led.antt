@@ -22,26 +22,28 @@ history_more : (done : List LineOutcome) (outcome : LineOutcome) → history_of 
 history_more done outcome = ap (λ l. entry_of what.Hello replies.Hello ∷ l) (flat_map-append entered_of done (outcome ∷ []) ∙ ap (λ l. flat_map entered_of done ++ l) (append-nil (entered_of outcome)))
 
 no_more : (calls : CallCounts) → MakesAtMost no_calls calls calls
-no_more calls = record { loads = omega arith; scans = omega arith; lasts = omega arith; applies = omega arith }
+no_more calls = record { loads = omega arith; scans = omega arith; pages = omega arith; lasts = omega arith; applies = omega arith }
 
 one_more : (most before after : CallCounts) → MakesAtMost most before after → MakesAtMost (both_calls most no_calls) before after
-one_more most before after makes = record { loads = omega (arith, makes.loads); scans = omega (arith, makes.scans); lasts = omega (arith, makes.lasts); applies = omega (arith, makes.applies) }
+one_more most before after makes = record { loads = omega (arith, makes.loads); scans = omega (arith, makes.scans); pages = omega (arith, makes.pages); lasts = omega (arith, makes.lasts); applies = omega (arith, makes.applies) }
 
 both_more : (first second a b c : CallCounts) → MakesAtMost first a b → MakesAtMost second b c → MakesAtMost (both_calls first second) a c
 both_more first second a b c one other = record {
   loads = omega (arith, one.loads, other.loads);
   scans = omega (arith, one.scans, other.scans);
+  pages = omega (arith, one.pages, other.pages);
   lasts = omega (arith, one.lasts, other.lasts);
   applies = omega (arith, one.applies, other.applies);
 }
 
 none_first : (calls : CallCounts) → both_calls no_calls calls ≡ calls
-none_first calls = λ i. record { loads = zero-add calls.loads i; scans = zero-add calls.scans i; lasts = zero-add calls.lasts i; applies = zero-add calls.applies i }
+none_first calls = λ i. record { loads = zero-add calls.loads i; scans = zero-add calls.scans i; pages = zero-add calls.pages i; lasts = zero-add calls.lasts i; applies = zero-add calls.applies i }
 
 both_both : (a b c : CallCounts) → both_calls (both_calls a b) c ≡ both_calls a (both_calls b c)
 both_both a b c = λ i. record {
   loads = add_assoc a.loads b.loads c.loads i;
   scans = add_assoc a.scans b.scans c.scans i;
+  pages = add_assoc a.pages b.pages c.pages i;
   lasts = add_assoc a.lasts b.lasts c.lasts i;
   applies = add_assoc a.applies b.applies c.applies i;
 }

@@ -3,6 +3,7 @@ pub mod Causes
 pub mod Cutting
 pub mod Led
 pub mod Newlines
+pub mod Prompt
 pub mod Reading
 pub mod Replied
 pub mod Taken

@@ -1,19 +1,19 @@
 -- Taking some lines, and then more.
-use Rattle.std.proofs.Common.{◌≡◌, ℕ, List, [], ◌∷◌, ◌++◌, Bool, true, false, refl, sym, ap, ◌∙◌, subst, append_assoc, append-nil}
+use Rattle.std.proofs.Common.{◌≡◌, ℕ, List, [], ◌∷◌, ◌++◌, Bool, true, false, refl, sym, ap, ◌∙◌, subst, append_assoc}
 use Rattle.std.specs.Prelude.{Result, Ok, Err, IfErr, IsErrAnd, OnOk}
 use Rattle.qe_base.specs.Outside.{Seen}
 use Rattle.qe_base.specs.Schemas.{Schema}
-use Rattle.qe_history.specs.Exchange.{LineOutcome, ComeOf}
+use Rattle.qe_history.specs.Exchange.{LineOutcome, ComeOf, bytes_of}
 use Rattle.qe_history.specs.Lines.{cut}
 use Rattle.qe_node.specs.declared.take.Stop.{Stop}
 use Rattle.qe_node.specs.declared.take.Stop.TheVariants as stop
 use Rattle.qe_node.specs.Taking.{Takes, TakesSome, TakesWhole, cuts, filled, has_newline}
 use Rattle.qe_node.proofs.Cutting.{cut_on, filled_more}
 use Rattle.qe_node.proofs.Led.{leads_more, leads_none, stood_on}
-use Rattle.qe_node.proofs.Wrote.{appends_nothing, lines_written}
+use Rattle.qe_node.proofs.Wrote.{appends_nothing, appends_still, lines_written}
 use Rattle.qe_view.specs.Attached.{Connected}
 
-come_more : (schema : Schema) (lines more : List (List ℕ)) (outcomes others : List LineOutcome) → ComeOf schema lines outcomes → ComeOf schema more others → ComeOf schema (lines ++ more) (outcomes ++ others)
+pub come_more : (schema : Schema) (lines more : List (List ℕ)) (outcomes others : List LineOutcome) → ComeOf schema lines outcomes → ComeOf schema more others → ComeOf schema (lines ++ more) (outcomes ++ others)
 come_more schema [] more [] others first second = second
 come_more schema [] more (outcome ∷ outcomes) others first second = absurd first
 come_more schema (line ∷ lines) more [] others first second = absurd first
@@ -24,7 +24,7 @@ pub takes_none : (schema : Schema) (below : Connected) (place : ℕ) (before now
 takes_none schema below place before now same = record { outcomes = []; come = tt; leads = leads_none schema below place; wrote = λ stood. appends_nothing before now same }
 
 -- some lines, and then more
-pub takes_more : (short : Bool) (schema : Schema) (lines more : List (List ℕ)) (a b c : Connected) (i j k : ℕ) (s t u : Seen) → Takes false schema lines a b i j s t → Takes short schema more b c j k t u → Takes short schema (lines ++ more) a c i k s u
+abbrev pub takes_more : (short : Bool) (schema : Schema) (lines more : List (List ℕ)) (a b c : Connected) (i j k : ℕ) (s t u : Seen) → Takes false schema lines a b i j s t → Takes short schema more b c j k t u → Takes short schema (lines ++ more) a c i k s u
 takes_more short schema lines more a b c i j k s t u first second = record {
   outcomes = first.outcomes ++ second.outcomes;
   come = come_more schema lines more first.outcomes second.outcomes first.come second.come;
@@ -33,14 +33,19 @@ takes_more short schema lines more a b c i j k s t u first second = record {
 }
 
 -- what isn't seen of the output makes no difference
-pub takes_still : (schema : Schema) (lines : List (List ℕ)) (a b : Connected) (i j : ℕ) (s t u : Seen) → Takes false schema lines a b i j s t → u.taken ≡ t.taken → Takes false schema lines a b i j s u
-takes_still schema lines a b i j s t u takes same = subst (λ (l : List (List ℕ)). Takes false schema l a b i j s u) (append-nil lines) (takes_more false schema lines [] a b b i j j s t u takes (takes_none schema b j t u same))
+abbrev pub takes_still : (schema : Schema) (lines : List (List ℕ)) (a b : Connected) (i j : ℕ) (s t u : Seen) → Takes false schema lines a b i j s t → u.taken ≡ t.taken → Takes false schema lines a b i j s u
+takes_still schema lines a b i j s t u takes same = record { outcomes = takes.outcomes; come = takes.come; leads = takes.leads; wrote = λ stood. appends_still s t u (bytes_of schema takes.outcomes) same (takes.wrote stood) }
 
 -- the lines of some pieces, and then of more
-pub pieces_more : (short : Bool) (schema : Schema) (pieces more : List (List ℕ)) (a b c : Connected) (i j k : ℕ) (s t u : Seen) → Takes false schema (filled pieces) a b i j s t → Takes short schema (filled more) b c j k t u
+abbrev pub pieces_more : (short : Bool) (schema : Schema) (pieces more : List (List ℕ)) (a b c : Connected) (i j k : ℕ) (s t u : Seen) → Takes false schema (filled pieces) a b i j s t → Takes short schema (filled more) b c j k t u
     → Takes short schema (filled (pieces ++ more)) a c i k s u
 pieces_more short schema pieces more a b c i j k s t u first second =
-    subst (λ (l : List (List ℕ)). Takes short schema l a c i k s u) (sym (filled_more pieces more)) (takes_more short schema (filled pieces) (filled more) a b c i j k s t u first second)
+    let both = takes_more short schema (filled pieces) (filled more) a b c i j k s t u first second in record {
+      outcomes = first.outcomes ++ second.outcomes;
+      come = subst (λ (l : List (List ℕ)). ComeOf schema l (first.outcomes ++ second.outcomes)) (sym (filled_more pieces more)) both.come;
+      leads = both.leads;
+      wrote = both.wrote;
+    }
 
 -- before anything is taken
 pub whole_none : (schema : Schema) (bytes : List ℕ) (below : Connected) (place : ℕ) (before : Seen) → TakesWhole schema bytes bytes below below place place before before

@@ -5,12 +5,13 @@ use Rattle.qe_base.specs.Schemas.{Schema}
 use Rattle.qe_history.specs.Exchange.{history_of}
 use Rattle.qe_history.specs.Lines.{lines_of}
 use Rattle.qe_history.specs.State.{State}
-use Rattle.qe_node.specs.Run.{Ran}
+use Rattle.qe_node.specs.Run.{IsPrompt, Ran}
 use Rattle.qe_node.specs.Serving.{IsStood, lines_calls}
 use Rattle.qe_node.specs.Taking.{RunsOn}
 use Rattle.qe_node.specs.declared.LinesEnd.{LinesEnd}
 use Rattle.qe_node.specs.declared.LinesEnd.TheVariants as ends
 use Rattle.qe_node.proofs.Led.{leads_none}
+use Rattle.qe_node.proofs.Prompt.{no_turn}
 use Rattle.qe_node.proofs.Reading.{itself}
 use Rattle.qe_node.proofs.Wrote.{appends_nothing}
 use Rattle.qe_session.specs.Standing.{StandsFor}
@@ -24,6 +25,7 @@ runs_short schema below place before = record {
   outcomes = [];
   source = itself before.left;
   ends = λ stood. (([], lines_of [], refl, tt), appends_nothing before before refl);
+  prompt = λ stood. no_turn (IsPrompt schema [] [] before) before;
   leads = leads_none schema below place;
 }
 
@@ -35,6 +37,7 @@ ran_of end schema opening before now given below after next stands calls runs =
       outcomes = runs.outcomes;
       source = runs.source;
       ends = runs.ends stood;
+      prompt = runs.prompt stood;
       stands = (runs.leads.stands opening [] stands refl).0;
       calls = subst (λ (c : CallCounts). MakesAtMost (lines_calls schema runs.outcomes) c after.calls) calls runs.leads.calls;
     }

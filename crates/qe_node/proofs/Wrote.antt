@@ -35,6 +35,9 @@ appends_more a b c x y first second = told_more a.taken b.taken c.taken x y firs
 pub appends_nothing : (a b : Seen) → b.taken ≡ a.taken → Appends a b []
 appends_nothing a b same = subst (λ t. IfSome t (λ all. IsSomeAnd a.taken (λ old. all ≡ old ++ []))) (sym same) (told_nothing a.taken)
 
+pub appends_still : (a b c : Seen) (x : List ℕ) → c.taken ≡ b.taken → Appends a b x → Appends a c x
+appends_still a b c x same appends = subst (λ t. IfSome t (λ all. IsSomeAnd a.taken (λ old. all ≡ old ++ x))) (sym same) appends
+
 written_part : (part rest piece : List ℕ) → part ++ rest ≡ piece → take (length part) piece ≡ part
 written_part part rest piece whole = subst (λ p. take (length part) p ≡ part) whole (take-append_seam part rest)
 

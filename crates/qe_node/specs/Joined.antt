@@ -6,12 +6,14 @@ use Rattle.qe_node.specs.Run.{RunsFromAny}
 use Rattle.qe_node.specs.declared.LinesEnd.{LinesEnd}
 use Rattle.qe_view.specs.Attached.{Connected}
 
--- what comes in of the one and goes out of the other, and no files
+-- what comes in of the one and goes out of the other, without the order of the two, and no files
 abbrev pub joined_seen : Seen → Seen → Seen
 joined_seen input output = record {
   left = input.left;
   taken = output.taken;
   files = None;
+  turns = None;
+  asked = None;
   reads = input.reads;
   writes = output.writes;
   fetches = record { count = 0; may_fail = false };

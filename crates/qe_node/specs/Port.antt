@@ -12,9 +12,9 @@ Appends before after bytes = IfSome after.taken (λ all. IsSomeAnd before.taken 
 abbrev pub AppendsPart : Seen → Seen → List ℕ → Type 0
 AppendsPart before after bytes = (count : ℕ) × (count < length bytes) × Appends before after (take count bytes)
 
--- all but the bytes that come in and go out is as it was
+-- all but the bytes that come in and go out, and what each read began with, is as it was
 abbrev pub OnlyMoved : Seen → Seen → Type 0
-OnlyMoved before after = after ≡ record before { left = after.left; taken = after.taken; reads = after.reads; writes = after.writes }
+OnlyMoved before after = after ≡ record before { left = after.left; taken = after.taken; turns = after.turns; reads = after.reads; writes = after.writes }
 
 -- Nothing but the bytes that go out has changed, and a write failed just where this holds.
 pub record Wrote (before after : Seen) (failed : Type 0) : Type 0 where

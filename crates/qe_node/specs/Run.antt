@@ -1,6 +1,6 @@
 -- A run over the lines of an input: how it ends, and what was done and written by then.
-use Rattle.std.specs.Prelude.{◌≡◌, ℕ, ◌+◌, ◌<◌, ◌≤◌, List, [], ◌∷◌, ◌++◌, length, take, Some, IfSome}
-use Rattle.qe_base.specs.Outside.{Seen}
+use Rattle.std.specs.Prelude.{◌≡◌, ℕ, ◌+◌, ◌<◌, ◌≤◌, List, [], ◌∷◌, ◌++◌, All, length, take, Some, IfSome, IsSomeAnd}
+use Rattle.qe_base.specs.Outside.{Seen, Turn}
 use Rattle.qe_base.specs.Schemas.{Schema}
 use Rattle.qe_history.specs.Exchange.{LineOutcome, ComeOf, bytes_of, history_of, outcome_line}
 use Rattle.qe_history.specs.Lines.{lines_of, whole_lines_of}
@@ -46,13 +46,31 @@ EndsWith ends.ReadFault schema read outcomes before after = ComeOf schema (whole
 EndsWith ends.WriteFault schema read outcomes before after = AreFirst schema read outcomes × LastCut schema outcomes before after
 EndsWith ends.Memory schema read outcomes before after = AreFirst schema read outcomes × AllWritten schema outcomes before after
 
+-- where the turns are told, this holds of each read since
+abbrev pub AtEachTurn : (Turn → Type 0) → Seen → Seen → Type 0
+AtEachTurn P before after = IfSome after.turns (λ turns. IsSomeAnd before.turns (λ earlier. (since : List Turn) × (turns ≡ earlier ++ since) × All P since))
+
+-- A read of a run began when each whole line in what had been read by then was answered: the lines of these outcomes had
+-- been written, and no more. These bytes and outcomes come first of all those of the run.
+pub record IsPrompt (schema : Schema) (all : List ℕ) (outcomes : List LineOutcome) (before : Seen) (turn : Turn) : Type 0 where
+  pub read : List ℕ
+  pub more : List ℕ
+  pub bytes : all ≡ read ++ more
+  pub source : IfSome turn.left (λ left. before.left ≡ Some (read ++ left))
+  pub answered : List LineOutcome
+  pub later : List LineOutcome
+  pub first : outcomes ≡ answered ++ later
+  pub come : ComeOf schema (whole_lines_of read) answered
+  pub written : IfSome turn.taken (λ taken. IsSomeAnd before.taken (λ old. taken ≡ old ++ bytes_of schema answered))
+
 -- A run: the bytes that were read, and the outcomes of the lines that were answered, which make the one legal history that
--- the core stands for by then.
+-- the core stands for by then. No read came while a whole line was unanswered.
 pub record Ran (end : LinesEnd) (schema : Schema) (opening : State) (before after : Seen) (given below : Connected) : Type 0 where
   pub read : List ℕ
   pub outcomes : List LineOutcome
   pub source : IfSome after.left (λ left. before.left ≡ Some (read ++ left))
   pub ends : EndsWith end schema read outcomes before after
+  pub prompt : AtEachTurn (IsPrompt schema read outcomes before) before after
   pub stands : StandsFor schema below opening (history_of outcomes)
   pub calls : MakesAtMost (lines_calls schema outcomes) given.calls below.calls
 

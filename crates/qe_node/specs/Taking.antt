@@ -5,7 +5,7 @@ use Rattle.qe_base.specs.Outside.{Seen}
 use Rattle.qe_base.specs.Schemas.{Schema}
 use Rattle.qe_history.specs.Exchange.{LineOutcome, ComeOf}
 use Rattle.qe_history.specs.Lines.{cut, is_blank}
-use Rattle.qe_node.specs.Run.{AllWritten, LastCut, EndsWith}
+use Rattle.qe_node.specs.Run.{AllWritten, AtEachTurn, EndsWith, IsPrompt, LastCut}
 use Rattle.qe_node.specs.Serving.{IsStood, Leads}
 use Rattle.qe_base.specs.declared.outside.Failed.{Failed}
 use Rattle.qe_node.specs.declared.LinesEnd.{LinesEnd}
@@ -61,12 +61,14 @@ WholeBy kept seen schema bytes pending core after place next port now = TakesWho
 abbrev pub SomeBy : {C P : Type 0} → (C → Connected) → (P → Seen) → Stop → Schema → List ℕ → Core C → Core C → ℕ → ℕ → P → P → Type 0
 SomeBy kept seen why schema bytes core after place next port now = TakesSome (cuts why) schema bytes (kept core.view.below) (kept after.view.below) place next (seen port) (seen now)
 
--- A run behind the greeting: the bytes that were read, and the outcomes of the lines that were answered.
+-- A run behind the greeting: the bytes that were read, and the outcomes of the lines that were answered, each before the
+-- next read.
 pub record RunsOn (end : LinesEnd) (schema : Schema) (below after : Connected) (place next : ℕ) (before now : Seen) : Type 0 where
   pub read : List ℕ
   pub outcomes : List LineOutcome
   pub source : IfSome now.left (λ left. before.left ≡ Some (read ++ left))
   pub ends : IsStood schema below place → EndsWith end schema read outcomes before now
+  pub prompt : IsStood schema below place → AtEachTurn (IsPrompt schema read outcomes before) before now
   pub leads : Leads schema outcomes below place after next
 
 abbrev pub end_by : Stop → LinesEnd

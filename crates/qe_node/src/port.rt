@@ -1,7 +1,7 @@
 //! Whole pieces, read from and written to something outside.
 ghost use Rattle.std.specs.Prelude.{◌≡◌, ◌<◌, ◌≤◌, ◌↔◌, ◌++◌, [], length, take, IfOk, OnErr, IsErr, IfSome, Some};
 ghost use Rattle.qe_base.specs.Causes.{HasCause};
-ghost use Rattle.qe_base.specs.Outside.{OnlyRead};
+ghost use Rattle.qe_base.specs.Outside.{OnlyRead, TakesTurn};
 ghost use Rattle.qe_node.specs.Port.{WritesAll};
 
 use qe_base::{Failed, Sink, Source};
@@ -17,6 +17,7 @@ pub fn read_front<P: Source + Sink>(
     ensures bytes { IfOk result (λ count. IfSome (P.seen port.new).left (λ rest. (P.seen port.old).left ≡ Some (take count piece.new ++ rest))) }
     ensures end { IfOk result (λ count. 0 < most → IfSome (P.seen port.old).left (λ left. (count ≡ 0) ↔ (left ≡ []))) }
     ensures failed { OnErr result ((P.seen port.new).left ≡ (P.seen port.old).left) }
+    ensures turn { TakesTurn (P.seen port.old) (P.seen port.new) }
     ensures cause { HasCause (P.seen port.old).reads (P.seen port.new).reads (IsErr result) }
     ensures others { OnlyRead (P.seen port.old) (P.seen port.new) }
 {

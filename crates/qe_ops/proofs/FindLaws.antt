@@ -26,7 +26,8 @@ use Rattle.qe_reading.specs.Fits.{is_empty, asks_nothing}
 use Rattle.qe_reading.specs.Page.{is_at}
 use Rattle.qe_reading.specs.Read.{row_or_missing}
 use Rattle.qe_reading.specs.Shape.{NamedAnswer, Shows, ShowsChild, columns_shown, child_step, pick_step, shape_of, child_of}
-use Rattle.qe_reading.specs.Truth.{Says, is_yes, truth_of, truth_step}
+use Rattle.qe_reading.specs.Truth.{Says, truth_of, truth_step}
+use Rattle.qe_schema.specs.Tests.{is_yes}
 use Rattle.qe_writing.specs.Plain.{Done, plain}
 
 -- ---- a filter that asks for nothing

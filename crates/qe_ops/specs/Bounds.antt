@@ -16,7 +16,13 @@ one_last = record no_calls { lasts = 1 }
 
 -- these calls and those
 abbrev pub both_calls : CallCounts → CallCounts → CallCounts
-both_calls one other = record { loads = one.loads + other.loads; scans = one.scans + other.scans; lasts = one.lasts + other.lasts; applies = one.applies + other.applies }
+both_calls one other = record {
+  loads = one.loads + other.loads;
+  scans = one.scans + other.scans;
+  pages = one.pages + other.pages;
+  lasts = one.lasts + other.lasts;
+  applies = one.applies + other.applies;
+}
 
 -- a new row of a table: a load for each of its keys, and one look at its counter
 abbrev pub calls_of_put : Schema → ℕ → CallCounts

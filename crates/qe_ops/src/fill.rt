@@ -21,11 +21,11 @@ fn given(column: u16, values: &[(u16, Value)]) -> Option<&Value>
 }
 
 /// What a new row has in the column of a number: the given value, else null.
-fn value_for(alloc: Global, number: u16, values: &[(u16, Value)]) -> Result<Value, Memory>
+fn value_for(number: u16, values: &[(u16, Value)]) -> Result<Value, Memory>
     ensures { IfOk result (λ value. value ≡ unwrap_or (given_for number values.now) Null) }
 {
     match given(number, values) {
-        Some(value) => value.copy(alloc),
+        Some(value) => value.share(),
         None => Ok(Value::Null),
     }
 }
@@ -37,7 +37,7 @@ pub fn fill(alloc: Global, columns: &[Column], values: &[(u16, Value)]) -> Resul
 {
     let mut filled = Items::new(alloc);
     for (number, _) in columns.iter().enumerate() {
-        filled.push(value_for(alloc, number as u16, values)?)?;
+        filled.push(value_for(number as u16, values)?)?;
     }
-    Ok(Row { values: filled })
+    Row::new(alloc, filled)
 }

@@ -80,7 +80,7 @@ fn is_held<V: View>(
 {
     let columns = key.columns.as_slice();
     let values = id_row(alloc, columns, row)?;
-    if has_null(values.values.as_slice()) {
+    if has_null(values.values()) {
         return Ok(false);
     }
     Ok(load(table, columns, values, view)?.is_some())

@@ -83,7 +83,7 @@ fn row_number(model: &Table, row: &Row) -> Option<i64>
 {
     match counting_column(model) {
         None => None,
-        Some(column) => match sqlite_items::at(row.values.as_slice(), column as usize) {
+        Some(column) => match sqlite_items::at(row.values(), column as usize) {
             Some(value) => number_of(value),
             None => None,
         },

@@ -42,7 +42,7 @@ fn find<V: View>(
 {
     let model = table_of(schema, table);
     let columns = key_columns(model, at.key);
-    let key = at.values.copy(alloc)?;
+    let key = at.values.share()?;
     match load(table, columns, key, view)? {
         Some(row) => Ok(shape(alloc, model, pick, &row)?),
         None if strict => Err(Refusal::Rule(Rule::Absent { table })),

@@ -14,7 +14,7 @@ fn scalar(alloc: Global, table: &Table, column: u16, row: &Row) -> Result<(Text,
 {
     match sqlite_items::at(table.columns.as_slice(), column as usize) {
         Some(found) => {
-            let value = value_in(alloc, row, column)?;
+            let value = value_in(row, column)?;
             Ok((found.name.copy(alloc)?, Answer::Scalar(found.kind, value)))
         }
         None => Ok((Text::from_str(alloc, "")?, Answer::Null)),

@@ -2,6 +2,7 @@ pub mod Ids
 pub mod Laying
 pub mod Maps
 pub mod Narrowing
+pub mod Paging
 pub mod Pairs
 pub mod Rows
 pub mod Seen

@@ -60,7 +60,7 @@ keyed-filter table p [] = refl
 keyed-filter table p (row ∷ rows) = elim (p row) as (λ b. keyed table (cond b (row ∷ filter p rows) (filter p rows)) ≡ cond b ((id_row table row, row) ∷ filter (λ e. p e.1) (keyed table rows)) (filter (λ e. p e.1) (keyed table rows)))
     [ true ↦ ap (λ l. (id_row table row, row) ∷ l) (keyed-filter table p rows) | false ↦ keyed-filter table p rows ]
 
-keyed-filter-ids : (table : Table) (p : Row → Bool) (rows : List Row) → keyed table (filter (λ row. p (id_row table row)) rows) ≡ filter (λ e. p e.0) (keyed table rows)
+pub keyed-filter-ids : (table : Table) (p : Row → Bool) (rows : List Row) → keyed table (filter (λ row. p (id_row table row)) rows) ≡ filter (λ e. p e.0) (keyed table rows)
 keyed-filter-ids table p [] = refl
 keyed-filter-ids table p (row ∷ rows) = elim (p (id_row table row)) as (λ b. keyed table (cond b (row ∷ filter (λ row. p (id_row table row)) rows) (filter (λ row. p (id_row table row)) rows)) ≡ cond b ((id_row table row, row) ∷ filter (λ e. p e.0) (keyed table rows)) (filter (λ e. p e.0) (keyed table rows)))
     [ true ↦ ap (λ l. (id_row table row, row) ∷ l) (keyed-filter-ids table p rows) | false ↦ keyed-filter-ids table p rows ]
@@ -94,7 +94,7 @@ found-put_among table row rows q sorted = ap (at q) (keyed-put_among table row r
 sorted-filter-ids : (table : Table) (p : Row → Bool) (rows : List Row) → Sorted table rows → Sorted table (filter (λ row. p (id_row table row)) rows)
 sorted-filter-ids table p rows sorted = subst (λ es. IsStrictlySortedBy row_cmp (keys_of es)) (sym (keyed-filter-ids table p rows)) (sorted-filter-keys row_cmp_total p (keyed table rows) sorted)
 
-sorted-filter-rows : (table : Table) (p : Row → Bool) (rows : List Row) → Sorted table rows → Sorted table (filter p rows)
+pub sorted-filter-rows : (table : Table) (p : Row → Bool) (rows : List Row) → Sorted table rows → Sorted table (filter p rows)
 sorted-filter-rows table p rows sorted = subst (λ es. IsStrictlySortedBy row_cmp (keys_of es)) (sym (keyed-filter table p rows)) (sorted-filter row_cmp_total (λ e. p e.1) (keyed table rows) sorted)
 
 found-filter-ids : (table : Table) (p : Row → Bool) (rows : List Row) (q : Row) → at q (keyed table (filter (λ row. p (id_row table row)) rows)) ≡ cond (p q) (at q (keyed table rows)) None
@@ -255,7 +255,7 @@ found-put_in table (row ∷ rows) laid q =
     ∙ ap (cond (is_eq (row_cmp q (id_row table row))) (Some row)) (found-put_in table rows laid q)
     ∙ first_or (is_eq (row_cmp q (id_row table row))) row (at q (keyed table rows)) (at q laid)
 
-sorted-put_in : (table : Table) (rows : List Row) (laid : List (Row × Row)) → IsStrictlySortedBy row_cmp (keys_of laid) → IsStrictlySortedBy row_cmp (keys_of (put_in table rows laid))
+pub sorted-put_in : (table : Table) (rows : List Row) (laid : List (Row × Row)) → IsStrictlySortedBy row_cmp (keys_of laid) → IsStrictlySortedBy row_cmp (keys_of (put_in table rows laid))
 sorted-put_in table [] laid sorted = sorted
 sorted-put_in table (row ∷ rows) laid sorted = sorted-insert_entry row_cmp_total (id_row table row) row (put_in table rows laid) (sorted-put_in table rows laid sorted)
 

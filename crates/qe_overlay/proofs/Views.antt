@@ -1,5 +1,5 @@
 -- The calls of a view, by what stands.
-use Rattle.std.proofs.Common.{◌≡◌, inl, inr, ℕ, zero, suc, ℤ, pos, List, [], ◌∷◌, ◌++◌, map, filter, take, slice_get, Option, Some, None, Bool, true, false, cond, not, ◌&&◌, refl, sym, ap, subst, ◌∙◌, true≢false, length, arith}
+use Rattle.std.proofs.Common.{◌≡◌, inl, inr, ℕ, zero, suc, ℤ, pos, List, [], ◌∷◌, ◌++◌, map, filter, take, slice_get, Option, Some, None, Bool, true, false, cond, not, ◌&&◌, refl, sym, ap, subst, ◌∙◌, true≢false, length, min, ◌+◌, ◌<◌, arith}
 use Rattle.std.specs.Prelude.{unwrap_or, IfSome, IsSomeAnd, IsErrOf, option_map, Ok, int_lt, nat_lt}
 use Rattle.std.specs.Int.{int_max}
 use Rattle.std.specs.List.{AllByRecursion, list_all}
@@ -8,6 +8,7 @@ use Rattle.std.proofs.lemmas.Int.{ints, clamps}
 use Rattle.std.proofs.lemmas.Option.{slice_get_within}
 use Rattle.qe_base.specs.declared.schema.Column.{Column}
 use Rattle.qe_base.specs.declared.schema.Choice.{Choice}
+use Rattle.qe_base.specs.declared.query.ColumnTest.{ColumnTest}
 use Rattle.qe_base.specs.declared.schema.Table.{Table}
 use Rattle.qe_base.specs.declared.value.Row.{Row}
 use Rattle.qe_base.specs.declared.value.Value.{Value}
@@ -16,9 +17,10 @@ use Rattle.qe_schema.specs.Sound.{IsSound}
 use Rattle.qe_schema.specs.Columns.{is_null, at_columns}
 use Rattle.qe_schema.specs.Fits.{FitsSchema, fit_columns, fits_column}
 use Rattle.qe_schema.specs.Tables.{Tables, no_rows, table_at, is_model, is_model_table, is_link, is_link_table, id_columns}
+use Rattle.qe_schema.specs.Tests.{passes}
 use Rattle.qe_base.specs.declared.value.TableId.{TableId}
-use Rattle.qe_view.specs.After.{after as after_change, rows_in, rows_at, is_wanted, pair_row}
-use Rattle.qe_view.specs.Right.{has_table, is_row_of, is_id_of, is_pair_of, is_last_of, are_values_of}
+use Rattle.qe_view.specs.After.{after as after_change, rows_in, rows_at, rows_passing, is_wanted, is_from, turned, page_among, page_in, pair_row}
+use Rattle.qe_view.specs.Right.{has_table, can_scan, can_page, is_row_of, is_id_of, is_pair_of, is_last_of, are_values_of}
 use Rattle.qe_view.specs.declared.changes.Change.TheVariants as change
 use Rattle.qe_view.specs.Attached.{Attached, Connected, FitLayout, shapes_of, OfShapes, HasShapes}
 use Rattle.qe_view.specs.Layouts.{Layout, layout_of}
@@ -27,14 +29,15 @@ use Rattle.qe_view.specs.Answers.{HasCauses}
 use Rattle.qe_view.specs.declared.changes.ConnFault.{ConnFault}
 use Rattle.qe_view.specs.declared.changes.ConnFault.TheVariants.{Failed}
 use Rattle.qe_base.specs.Causes.{Faults, HasCause}
-use Rattle.qe_overlay.specs.Fits.{FitsAs, FitsEntry, LayersFit, FitOver, HasLayout, viewed, Stands, LiesOver}
+use Rattle.qe_overlay.specs.Fits.{FitsAs, FitsEntry, LayersFit, FitOver, HasLayout, viewed, Stands, LiesOver, PageLiesOver}
 use Rattle.qe_overlay.specs.Held.{Held, changed_to, entered, raised, raised_over, with_raised, with_layer, with_entry, HeldGoesBack}
-use Rattle.qe_overlay.specs.Laid.{id_row, laid_over}
+use Rattle.qe_overlay.specs.Laid.{id_row, laid_over, page_over}
 use Rattle.qe_overlay.specs.Layers.{Entry, Layers, rows_and, present, over_rows, over_pairs, over_last, pair_of, seen}
 use Rattle.qe_overlay.proofs.Ids.{have_ids}
+use Rattle.qe_overlay.proofs.Paging.{all-push, page_seen, taken_all, all_page}
 use Rattle.qe_overlay.proofs.Pairs.{as_rows, over_as_rows, pairs_sorted, pairs_own}
 use Rattle.qe_overlay.proofs.Rows.{Sorted, OwnIds, sorted_from, laid_seen, all_laid}
-use Rattle.qe_overlay.proofs.Seen.{entries_own, entries_pairs, put_fits, remove_fits, link_fits, unlink_fits, last_changed, still_fit, put_is, remove_is, link_is, unlink_is}
+use Rattle.qe_overlay.proofs.Seen.{model_not_link, entries_own, entries_pairs, put_fits, remove_fits, link_fits, unlink_fits, last_changed, still_fit, put_is, remove_is, link_is, unlink_is}
 
 -- tables that fit the layout of a schema fit it
 pub shapes_fit : (schema : Schema) (tables : Tables) → FitsSchema (shapes_of (layout_of schema)) tables → FitsSchema schema tables
@@ -85,10 +88,6 @@ standing schema held connected stands = record { sound = stands.sound; below = b
 map-push : {A B : Type 0} (f : A → B) (xs : List A) (x : A) → map f (xs ++ x ∷ []) ≡ map f xs ++ f x ∷ []
 map-push f [] x = refl
 map-push f (y ∷ xs) x = ap (λ l. f y ∷ l) (map-push f xs x)
-
-all-push : {A : Type 0} (P : A → Type 0) (xs : List A) (x : A) → AllByRecursion P xs → P x → AllByRecursion P (xs ++ x ∷ [])
-all-push P [] x all one = (one, tt)
-all-push P (y ∷ xs) x all one = (all.0, all-push P xs x all.1 one)
 
 -- ---- a change
 
@@ -231,13 +230,43 @@ load_gives schema None held table columns keys found rows stands lies is = tt
 load_gives schema (Some tables) held table columns keys found rows stands lies is =
     read_told schema held.layers tables table (is_wanted columns keys) found rows stands.sound stands.now.0 stands.below lies is
 
-pub scan_gives : (schema : Schema) (told : Option Tables) (held : Held) (table : ℕ) (found rows : List Row) → Standing schema told held
-    → LiesOver (table_at schema table) (held.layers table).entries (λ row. true) found rows → IfSome told (λ tables. found ≡ rows_in tables table)
-    → IfSome (option_map (seen schema held.layers) told) (λ tables. rows ≡ rows_in tables table)
-scan_gives schema None held table found rows stands lies is = tt
-scan_gives schema (Some tables) held table found rows stands lies is =
-    read_told schema held.layers tables table (λ row. true) found rows stands.sound stands.now.0 stands.below lies (is ∙ sym (filter_true (rows_in tables table)))
-    ∙ filter_true (rows_in (seen schema held.layers tables) table)
+pub scan_gives : (schema : Schema) (told : Option Tables) (held : Held) (table : ℕ) (tests : List ColumnTest) (found rows : List Row) → Standing schema told held
+    → LiesOver (table_at schema table) (held.layers table).entries (passes tests) found rows → IfSome told (λ tables. found ≡ rows_passing tests table tables)
+    → IfSome (option_map (seen schema held.layers) told) (λ tables. rows ≡ rows_passing tests table tables)
+scan_gives schema None held table tests found rows stands lies is = tt
+scan_gives schema (Some tables) held table tests found rows stands lies is =
+    read_told schema held.layers tables table (passes tests) found rows stands.sound stands.now.0 stands.below lies is
+
+none_more : (count : ℕ) (entries : List Entry) → entries ≡ [] → count + length entries ≡ count
+none_more count entries none = let no_length : length entries ≡ 0 = ap length none in omega arith
+
+page_told : (schema : Schema) (layers : Layers) (tables : Tables) (table : ℕ) (from : Option Row) (backward : Bool) (count : ℕ) (found rows : List Row) → is_link schema table ≡ false → LayersFit schema layers → FitsSchema schema tables
+    → PageLiesOver (table_at schema table) (layers table).entries from backward count found rows
+    → found ≡ page_in schema from backward (count + length (layers table).entries) table tables → rows ≡ page_in schema from backward count table (seen schema layers tables)
+page_told schema layers tables table from backward count found rows model fit below lies is = by_lying lies ∙ sym shown
+  where
+    shown : page_in schema from backward count table (seen schema layers tables) ≡ page_among (table_at schema table) from backward count (over_rows (table_at schema table) (layers table).entries (tables.rows table))
+    shown = ap (λ b. page_among (table_at schema table) from backward count (cond b (tables.rows table) (over_rows (table_at schema table) (layers table).entries (tables.rows table)))) model
+
+    by_lying : PageLiesOver (table_at schema table) (layers table).entries from backward count found rows → rows ≡ page_among (table_at schema table) from backward count (over_rows (table_at schema table) (layers table).entries (tables.rows table))
+    by_lying (inl (none, same)) =
+        same ∙ is
+        ∙ ap (λ n. page_among (table_at schema table) from backward n (tables.rows table)) (none_more count (layers table).entries none)
+        ∙ ap (page_among (table_at schema table) from backward count) (sym (filter_true (tables.rows table)))
+        ∙ ap (λ es. page_among (table_at schema table) from backward count (over_rows (table_at schema table) es (tables.rows table))) (sym none)
+    by_lying (inr laid) =
+        laid ∙ ap (page_over (table_at schema table) (layers table).entries from backward count) is
+        ∙ page_seen (table_at schema table) (layers table).entries from backward count (tables.rows table) (fit.order table) (entries_own schema layers fit table model) (sorted_from (table_at schema table) (tables.rows table) (below.order table))
+
+pub page_gives : (schema : Schema) (told : Option Tables) (held : Held) (table : ℕ) (from : Option Row) (backward : Bool) (count most limit : ℕ) (found rows : List Row) → Standing schema told held → can_page schema table from ≡ true
+    → most ≡ min (count + length (held.layers table).entries) limit → length found < limit
+    → PageLiesOver (table_at schema table) (held.layers table).entries from backward count found rows → IfSome told (λ tables. found ≡ page_in schema from backward most table tables)
+    → IfSome (option_map (seen schema held.layers) told) (λ tables. rows ≡ page_in schema from backward count table tables)
+page_gives schema None held table from backward count most limit found rows stands can most_is few lies is = tt
+page_gives schema (Some tables) held table from backward count most limit found rows stands can most_is few lies is =
+    let model = model_not_link schema table (and_parts (is_model schema table) _ can).0 in
+    page_told schema held.layers tables table from backward count found rows model stands.now.0 stands.below lies
+    (taken_all (count + length (held.layers table).entries) most limit found (turned backward (filter (is_from (table_at schema table) from backward) (tables.rows table))) most_is few is)
 
 -- ---- rows that fit
 
@@ -278,6 +307,13 @@ read_fits schema told held table chosen found rows stands (inl (none, same)) fit
 read_fits schema told held table chosen found rows stands (inr laid) fit =
     ap (list_all (RowFits schema table)) laid
     ∙ all_laid (RowFits schema table) (table_at schema table) (held.layers table).entries chosen found fit (present_fit schema table (held.layers table).entries stands.sound (is_link schema table) refl (stands.now.0.entries table))
+
+pub page_fits : (schema : Schema) (told : Option Tables) (held : Held) (table : ℕ) (from : Option Row) (backward : Bool) (count : ℕ) (found rows : List Row) → Standing schema told held
+    → PageLiesOver (table_at schema table) (held.layers table).entries from backward count found rows → list_all (RowFits schema table) found ≡ true → list_all (RowFits schema table) rows ≡ true
+page_fits schema told held table from backward count found rows stands (inl (none, same)) fit = ap (list_all (RowFits schema table)) same ∙ fit
+page_fits schema told held table from backward count found rows stands (inr laid) fit =
+    ap (list_all (RowFits schema table)) laid
+    ∙ all_page (RowFits schema table) (table_at schema table) (held.layers table).entries from backward count found fit (present_fit schema table (held.layers table).entries stands.sound (is_link schema table) refl (stands.now.0.entries table))
 
 -- ---- counters
 
@@ -373,6 +409,12 @@ model_there tables table is = by_found (slice_get tables table) refl is
 
 pub table_of_row : (schema : Schema) (table : ℕ) (row : Row) → is_row_of schema table row ≡ true → has_table schema table ≡ true
 table_of_row schema table row right = model_there schema.tables table (and_parts (is_model schema table) _ right).0
+
+pub table_of_page : (schema : Schema) (table : ℕ) (from : Option Row) → can_page schema table from ≡ true → has_table schema table ≡ true
+table_of_page schema table from can = model_there schema.tables table (and_parts (is_model schema table) _ can).0
+
+pub table_of_scan : (schema : Schema) (table : ℕ) (tests : List ColumnTest) → can_scan schema table tests ≡ true → has_table schema table ≡ true
+table_of_scan schema table tests can = (and_parts (has_table schema table) _ can).0
 
 pub row_id_is : (schema : Schema) (table : ℕ) (shape : Table) (columns : List ℕ) (row id : Row) → shape ≡ table_at schema table → columns ≡ id_columns shape → id.values ≡ at_columns columns row → id ≡ id_row (table_at schema table) row
 row_id_is schema table shape columns row id shape_is columns_are id_is =

@@ -17,7 +17,7 @@ use Rattle.qe_view.specs.Layouts.{Layout, layout_of}
 use Rattle.qe_view.specs.Versions.{Viewed}
 use Rattle.qe_base.specs.declared.value.TableId.{TableId}
 use Rattle.qe_overlay.specs.Held.{Held, KeptLayers, held_in, narrowed, none_kept}
-use Rattle.qe_overlay.specs.Laid.{laid_over}
+use Rattle.qe_overlay.specs.Laid.{laid_over, page_over}
 use Rattle.qe_overlay.specs.Layers.{Entry, Layers, pair_of, seen}
 
 -- a row of this model, with this id
@@ -73,6 +73,10 @@ pub record Stands (schema : Schema) (held : Held) (connected : Connected) : Type
 -- rows that nothing is entered over stay as they are
 abbrev pub LiesOver : Table → List Entry → (Row → Bool) → List Row → List Row → Type 0
 LiesOver table entries chosen rows seen = ((entries ≡ []) × (seen ≡ rows)) ⊎ (seen ≡ laid_over table entries chosen rows)
+
+-- a page that nothing is entered over stays as it is
+abbrev pub PageLiesOver : Table → List Entry → Option Row → Bool → ℕ → List Row → List Row → Type 0
+PageLiesOver table entries from backward count rows seen = ((entries ≡ []) × (seen ≡ rows)) ⊎ (seen ≡ page_over table entries from backward count rows)
 
 -- the told tables that are seen fit
 seen_fit : (schema : Schema) (told : Option Tables) (layers : Layers) → FitOver schema told layers → IfSome (option_map (seen schema layers) told) (FitsSchema schema)

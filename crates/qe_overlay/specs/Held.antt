@@ -7,7 +7,7 @@ use Rattle.std.specs.Map.{lookup, remove_entry, set_value}
 use Rattle.qe_base.specs.Values.{row_cmp}
 use Rattle.qe_base.specs.declared.value.Row.{Row}
 use Rattle.qe_base.specs.declared.value.TableId.{TableId}
-use Rattle.qe_overlay.specs.Layers.{Layer, Layers, no_layer}
+use Rattle.qe_overlay.specs.Layers.{Entry, Layer, Layers, no_layer}
 use Rattle.qe_overlay.specs.declared.overlay.Undo.{Undo}
 use Rattle.qe_overlay.specs.declared.overlay.Undo.TheVariants.{Entered, Raised}
 
@@ -86,6 +86,10 @@ past_of (undo ∷ later) layers = all_undone (undo ∷ later) layers ∷ past_of
 -- what the kept lists stand for
 abbrev pub held_in : KeptLayers → Held
 held_in kept = record { layers = layers_in kept.layers; past = past_of kept.log (layers_in kept.layers) }
+
+-- what is entered of a table
+abbrev pub entries_in : KeptLayers → ℕ → List Entry
+entries_in kept table = ((held_in kept).layers table).entries
 
 -- nothing was changed
 abbrev pub none_kept : KeptLayers

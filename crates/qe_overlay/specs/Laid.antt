@@ -1,11 +1,12 @@
 -- Rows laid together by their ids.
-use Rattle.std.specs.Prelude.{Bool, not, List, [], ◌∷◌, filter, Option, Some, None, if◌then◌else◌}
+use Rattle.std.specs.Prelude.{ℕ, Bool, not, List, [], ◌∷◌, filter, take, Option, Some, None, if◌then◌else◌}
 use Rattle.std.specs.BTreeMap.{insert_entry}
 use Rattle.std.specs.Map.{values_of}
 use Rattle.qe_base.specs.Values.{row_cmp}
 use Rattle.qe_base.specs.declared.schema.Table.{Table}
 use Rattle.qe_base.specs.declared.value.Row.{Row}
 use Rattle.qe_schema.specs.Tables.{id_of}
+use Rattle.qe_view.specs.After.{is_from, turned}
 use Rattle.qe_overlay.specs.Layers.{Entry, present, is_entered}
 
 -- the id of a row, as a row
@@ -28,3 +29,7 @@ row_if chosen (Some row) = if chosen row then row ∷ [] else []
 -- in the order of their ids: of the rows below those that aren't entered, and of the entered ones those that are chosen
 abbrev pub laid_over : Table → List Entry → (Row → Bool) → List Row → List Row
 laid_over table entries chosen rows = values_of (put_in table (filter chosen (present entries)) (put_in table (untouched table entries rows) []))
+
+-- a page of them, of a page of the rows below
+abbrev pub page_over : Table → List Entry → Option Row → Bool → ℕ → List Row → List Row
+page_over table entries from backward count rows = take count (turned backward (laid_over table entries (is_from table from backward) rows))

@@ -33,7 +33,6 @@ fn is_link(schema: &Schema, table: TableId) -> bool
 
 /// Appends the changes of a stage for what is entered under an id.
 fn push_entry(
-    alloc: Global,
     changes: &mut Items<Change>,
     stage: Stage,
     table: TableId,
@@ -44,24 +43,24 @@ fn push_entry(
 {
     match stage {
         Stage::Removes => {
-            let id = id.copy(alloc)?;
+            let id = id.share()?;
             changes.push(Change::Remove { table, id })?;
         }
         Stage::Puts => {
             if let Some(row) = now {
-                let row = row.copy(alloc)?;
+                let row = row.share()?;
                 changes.push(Change::Put { table, row })?;
             }
         }
         Stage::Unlinks => {
-            let a = value_in(alloc, id, 0)?;
-            let b = value_in(alloc, id, 1)?;
+            let a = value_in(id, 0)?;
+            let b = value_in(id, 1)?;
             changes.push(Change::Unlink { table, a, b })?;
         }
         Stage::Links => {
             if let Some(pair) = now {
-                let a = value_in(alloc, pair, 0)?;
-                let b = value_in(alloc, pair, 1)?;
+                let a = value_in(pair, 0)?;
+                let b = value_in(pair, 1)?;
                 changes.push(Change::Link { table, a, b })?;
             }
         }
@@ -72,7 +71,6 @@ fn push_entry(
 
 /// Appends the changes of a stage for all entries of a table.
 fn push_entries(
-    alloc: Global,
     changes: &mut Items<Change>,
     stage: Stage,
     table: TableId,
@@ -81,7 +79,7 @@ fn push_entries(
     ensures { OnOk result (changes.new ≡ changes.old ++ all_entries stage table entries.now.entries) }
 {
     for (id, now) in entries {
-        push_entry(alloc, changes, stage, table, id, now)?;
+        push_entry(changes, stage, table, id, now)?;
     }
     Ok(())
 }
@@ -102,7 +100,6 @@ fn push_counter(
 
 /// Appends the changes of a stage for a table.
 fn push_table(
-    alloc: Global,
     changes: &mut Items<Change>,
     stage: Stage,
     table: TableId,
@@ -116,23 +113,23 @@ fn push_table(
             if link {
                 return Ok(());
             }
-            push_entries(alloc, changes, Stage::Removes, table, &layer.entries)
+            push_entries(changes, Stage::Removes, table, &layer.entries)
         }
         Stage::Puts => {
             if link {
                 return Ok(());
             }
-            push_entries(alloc, changes, Stage::Puts, table, &layer.entries)
+            push_entries(changes, Stage::Puts, table, &layer.entries)
         }
         Stage::Unlinks => {
             if link {
-                return push_entries(alloc, changes, Stage::Unlinks, table, &layer.entries);
+                return push_entries(changes, Stage::Unlinks, table, &layer.entries);
             }
             Ok(())
         }
         Stage::Links => {
             if link {
-                return push_entries(alloc, changes, Stage::Links, table, &layer.entries);
+                return push_entries(changes, Stage::Links, table, &layer.entries);
             }
             Ok(())
         }
@@ -142,7 +139,6 @@ fn push_table(
 
 /// Appends the changes of a stage for all tables.
 fn push_stage(
-    alloc: Global,
     changes: &mut Items<Change>,
     schema: &Schema,
     stage: Stage,
@@ -154,7 +150,7 @@ fn push_stage(
     for (number, layer) in layers.iter().enumerate() {
         let table = TableId(number as u16);
         let link = is_link(schema, table);
-        push_table(alloc, changes, stage, table, link, layer)?;
+        push_table(changes, stage, table, link, layer)?;
     }
     Ok(())
 }
@@ -169,10 +165,10 @@ pub fn all_changes(
     ensures { IfOk result (λ changes. changes ≡ settled_by schema.now layers.now) }
 {
     let mut changes = Items::new(alloc);
-    push_stage(alloc, &mut changes, schema, Stage::Removes, layers)?;
-    push_stage(alloc, &mut changes, schema, Stage::Puts, layers)?;
-    push_stage(alloc, &mut changes, schema, Stage::Unlinks, layers)?;
-    push_stage(alloc, &mut changes, schema, Stage::Links, layers)?;
-    push_stage(alloc, &mut changes, schema, Stage::Counters, layers)?;
+    push_stage(&mut changes, schema, Stage::Removes, layers)?;
+    push_stage(&mut changes, schema, Stage::Puts, layers)?;
+    push_stage(&mut changes, schema, Stage::Unlinks, layers)?;
+    push_stage(&mut changes, schema, Stage::Links, layers)?;
+    push_stage(&mut changes, schema, Stage::Counters, layers)?;
     Ok(changes)
 }

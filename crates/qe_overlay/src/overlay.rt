@@ -1,14 +1,16 @@
 //! What is entered of all tables, and how it is taken back.
-ghost use Rattle.std.specs.Prelude.{◌≡◌, ◌≤◌, ◌<◌, ◌+◌, ◌∷◌, ◌++◌, [], length, true, IfOk, OnOk, OnErr, None, Some};
+ghost use Rattle.std.specs.Prelude.{◌≡◌, ◌≤◌, ◌<◌, ◌+◌, ◌∷◌, ◌++◌, [], length, IfOk, OnOk, OnErr, None, Some};
+ghost use Rattle.std.specs.Option.{option_copied};
+ghost use Rattle.qe_schema.specs.Tests.{passes};
 ghost use Rattle.qe_view.specs.After.{is_wanted};
-ghost use Rattle.qe_overlay.specs.Fits.{LiesOver};
+ghost use Rattle.qe_overlay.specs.Fits.{LiesOver, PageLiesOver};
 ghost use Rattle.qe_overlay.specs.Layers.{no_layers, over_last};
 ghost use Rattle.qe_overlay.specs.Settled.{SettlesBelow};
-ghost use Rattle.qe_overlay.specs.Held.{held_in, layers_in, none_kept, entered, raised, undone, HeldGoesBack, is_listed as has_number, narrowed};
+ghost use Rattle.qe_overlay.specs.Held.{held_in, entries_in, layers_in, none_kept, entered, raised, undone, HeldGoesBack, is_listed as has_number, narrowed};
 
 use crate::changes::all_changes;
 use crate::layer::Layer;
-use qe_base::{Row, Rows, Table, TableId};
+use qe_base::{ColumnTest, Row, Rows, Table, TableId};
 use qe_schema::Schema;
 use qe_text::{Items, Memory};
 use qe_view::{Change, Mark};
@@ -76,7 +78,7 @@ impl Overlay {
         ensures ok { OnOk result (held_in self.new ≡ entered table.0 id now (held_in self.old)) }
         ensures err { OnErr result (held_in self.new ≡ held_in self.old) }
     {
-        let under = id.copy(self.alloc)?;
+        let under = id.share()?;
         self.reach(table)?;
         self.log.reserve(1)?;
         let layer = &mut self.layers[table.0 as usize];
@@ -174,7 +176,7 @@ impl Overlay {
         ensures ok { OnOk result (held_in self.new ≡ entered table.0 pair (Some pair) (held_in self.old)) }
         ensures err { OnErr result (held_in self.new ≡ held_in self.old) }
     {
-        let under = pair.copy(self.alloc)?;
+        let under = pair.share()?;
         self.enter(table, under, Some(pair))
     }
 
@@ -210,7 +212,7 @@ impl Overlay {
         keys: &[Row],
         rows: Rows,
     ) -> Result<Rows, Memory>
-        ensures { IfOk result (λ seen. LiesOver shape.now ((held_in self.now).layers table.0).entries (is_wanted columns.now keys.now) rows.rows seen.rows) }
+        ensures { IfOk result (λ seen. LiesOver shape.now (entries_in self.now table.0) (is_wanted columns.now keys.now) rows.rows seen.rows) }
     {
         match self.layers.get(table.0 as usize) {
             None => Ok(rows),
@@ -218,13 +220,47 @@ impl Overlay {
         }
     }
 
-    /// Rows below with all entered ones laid over them.
-    pub fn all_over(&self, table: TableId, shape: &Table, rows: Rows) -> Result<Rows, Memory>
-        ensures { IfOk result (λ seen. LiesOver shape.now ((held_in self.now).layers table.0).entries (λ row. true) rows.rows seen.rows) }
+    /// Rows below with the entered ones laid over them that pass all of the tests.
+    pub fn passing_over(
+        &self,
+        table: TableId,
+        shape: &Table,
+        tests: &[ColumnTest],
+        rows: Rows,
+    ) -> Result<Rows, Memory>
+        ensures { IfOk result (λ seen. LiesOver shape.now (entries_in self.now table.0) (passes tests.now) rows.rows seen.rows) }
     {
         match self.layers.get(table.0 as usize) {
             None => Ok(rows),
-            Some(layer) => layer.all_over(self.alloc, shape, rows),
+            Some(layer) => layer.passing_over(self.alloc, shape, tests, rows),
+        }
+    }
+
+    /// How many ids of a table have an entry.
+    pub fn entered(&self, table: TableId) -> usize
+        ensures { result ≡ length (entries_in self.now table.0) }
+    {
+        match self.layers.get(table.0 as usize) {
+            None => 0,
+            Some(layer) => layer.entries.len(),
+        }
+    }
+
+    /// A page of at most `count` rows, of a page below with the entered rows laid over it.
+    pub fn page_over(
+        &self,
+        table: TableId,
+        shape: &Table,
+        from: Option<&Row>,
+        backward: bool,
+        count: usize,
+        rows: Rows,
+    ) -> Result<Rows, Memory>
+        ensures { IfOk result (λ seen. PageLiesOver shape.now (entries_in self.now table.0) (option_copied from.entry) backward count rows.rows seen.rows) }
+    {
+        match self.layers.get(table.0 as usize) {
+            None => Ok(rows),
+            Some(layer) => layer.page_over(self.alloc, shape, from, backward, count, rows),
         }
     }
 

@@ -1,5 +1,5 @@
 //! The tables of a connector, seen through an overlay.
-ghost use Rattle.std.specs.Prelude.{◌≡◌, true, [], OnOk, OnErr};
+ghost use Rattle.std.specs.Prelude.{◌≡◌, ◌<◌, ◌^◌, ◌-◌, true, [], length, OnOk, OnErr};
 ghost use Rattle.qe_view.specs.Attached.{FitLayout, CanApply};
 ghost use Rattle.qe_view.specs.Right.{has_table};
 ghost use Rattle.qe_schema.specs.Tables.{table_at};
@@ -8,14 +8,14 @@ ghost use Rattle.qe_overlay.specs.Settled.{AppliesAny, Settles};
 
 use crate::layer::id_columns;
 use crate::overlay::Overlay;
-use qe_base::{Row, Rows, Shared, Table, TableId, Value};
+use qe_base::{ColumnTest, Row, Rows, Shared, Table, TableId, Value};
 use qe_schema::Schema;
 use qe_text::{Items, Memory};
 use qe_view::{Change, ConnFault, Connector, Mark, View, id_row, pair_row};
 use std::mem;
 
 /// The tables of a schema that a connector keeps, with the changes of an overlay. Changes stay in the overlay, and
-/// each reading makes one call below.
+/// each reading makes one call below. A page asks there for as many more rows as the table has entries.
 #[derive(Drop)]
 pub struct OverlayView<C> {
     schema: Shared<Schema>,
@@ -29,6 +29,13 @@ fn shape_of(schema: &Schema, table: TableId) -> &Table
     ensures { result.now ≡ table_at schema.now table.0 }
 {
     &schema.table_list()[table.0 as usize]
+}
+
+/// Rows are always fewer than a count can say.
+fn are_few(rows: &[Row])
+    ensures { length rows.now < 2 ^ 64 - 1 }
+{
+    let _more = rows.len() + 1;
 }
 
 /// Makes changes, if there are any.
@@ -140,10 +147,29 @@ impl<C: Connector> View for OverlayView<C> {
         Ok(rows)
     }
 
-    fn scan(&mut self, table: TableId) -> Result<Rows, ConnFault> {
-        let found = self.below.scan(table)?;
+    fn scan(&mut self, table: TableId, tests: &[ColumnTest]) -> Result<Rows, ConnFault> {
+        let found = self.below.scan(table, tests)?;
         let shape = shape_of(self.schema.get(), table);
-        let rows = self.overlay.all_over(table, shape, found)?;
+        let rows = self.overlay.passing_over(table, shape, tests, found)?;
+        Ok(rows)
+    }
+
+    fn page(
+        &mut self,
+        table: TableId,
+        from: Option<&Row>,
+        backward: bool,
+        count: usize,
+    ) -> Result<Rows, ConnFault> {
+        // Each entry hides at most one row below.
+        let held = self.overlay.entered(table);
+        let most = count.saturating_add(held);
+        let found = self.below.page(table, from, backward, most)?;
+        are_few(found.rows.as_slice());
+        let shape = shape_of(self.schema.get(), table);
+        let rows = self
+            .overlay
+            .page_over(table, shape, from, backward, count, found)?;
         Ok(rows)
     }
 
@@ -160,7 +186,7 @@ impl<C: Connector> View for OverlayView<C> {
     }
 
     fn remove(&mut self, table: TableId, id: &Row) -> Result<(), ConnFault> {
-        let id = id.copy(self.overlay.allocator())?;
+        let id = id.share()?;
         self.overlay.remove(table, id)?;
         Ok(())
     }

@@ -26,7 +26,8 @@ use Rattle.qe_base.specs.declared.write.Op.TheVariants as op
 use Rattle.qe_base.specs.Schemas.{Schema, link_of}
 use Rattle.qe_schema.specs.Tables.{Tables, table_at, field_at}
 use Rattle.qe_reading.specs.Related.{other_table, are_paired, id_value, is_some_such, is_related_by, related, first_row, one_related, is_to_many}
-use Rattle.qe_reading.specs.Truth.{Says, truth_step, truth_of, of_many, yes_if, is_absent, is_yes_of, is_yes}
+use Rattle.qe_reading.specs.Truth.{Says, truth_step, truth_of, of_many, is_absent, is_yes_of}
+use Rattle.qe_schema.specs.Tests.{yes_if, is_yes}
 use Rattle.qe_reading.specs.Order.{value_along, end_value, order_cmp, rows_cmp, sorted_by}
 use Rattle.qe_reading.specs.Page.{is_at, page_of}
 use Rattle.qe_reading.specs.Look.{looked_up}

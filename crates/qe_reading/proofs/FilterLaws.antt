@@ -8,10 +8,11 @@ use Rattle.qe_base.specs.declared.query.Filter.TheVariants as filter
 use Rattle.qe_base.specs.declared.query.Quant.TheVariants as quant
 use Rattle.qe_base.specs.Schemas.{Schema}
 use Rattle.qe_schema.specs.Tables.{Tables}
-use Rattle.qe_reading.specs.declared.Truth.{Truth}
-use Rattle.qe_reading.specs.declared.Truth.TheVariants.{Yes, No, Unknown}
+use Rattle.qe_schema.specs.declared.truth.Truth.{Truth}
+use Rattle.qe_schema.specs.declared.truth.Truth.TheVariants.{Yes, No, Unknown}
 use Rattle.qe_reading.specs.Related.{other_table, related}
-use Rattle.qe_reading.specs.Truth.{Says, truth_of, all_of, any_of, both, either, opposite, yes_if, of_many, is_yes, is_no, is_unknown}
+use Rattle.qe_reading.specs.Truth.{Says, truth_of, all_of, any_of, both, either, opposite, of_many, is_no, is_unknown}
+use Rattle.qe_schema.specs.Tests.{yes_if, is_yes}
 use Rattle.qe_reading.proofs.Layers.{truth_all, truth_any, truth_not, truth_many}
 
 all_said : (schema : Schema) (tables : Tables) (table : ℕ) (row : Row) (parts : List Filter)

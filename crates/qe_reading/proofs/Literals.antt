@@ -23,9 +23,10 @@ use Rattle.qe_base.specs.declared.answer.Rule.{Rule}
 use Rattle.qe_base.specs.declared.answer.Rule.TheVariants as rule
 use Rattle.qe_base.specs.declared.write.Op.TheVariants as op
 use Rattle.qe_schema.specs.Tables.{table_at}
-use Rattle.qe_reading.specs.declared.Truth.TheVariants.{Yes, No, Unknown}
+use Rattle.qe_schema.specs.declared.truth.Truth.TheVariants.{Yes, No, Unknown}
 use Rattle.qe_reading.specs.Related.{other_table, related, one_related, first_row, is_to_many}
-use Rattle.qe_reading.specs.Truth.{Says, truth_of, truth_step, is_yes}
+use Rattle.qe_reading.specs.Truth.{Says, truth_of, truth_step}
+use Rattle.qe_schema.specs.Tests.{is_yes}
 use Rattle.qe_reading.specs.Order.{ordered}
 use Rattle.qe_reading.specs.Page.{page_of, is_at}
 use Rattle.qe_reading.specs.Shape.{Shows, ShowsChild, then_ok, field_name, one_shown, all_shown, child_shown, child_step, pick_step, shape_of, child_of}

@@ -15,7 +15,7 @@ use Rattle.qe_schema.specs.Columns.{values_cmp}
 use Rattle.qe_schema.specs.Tables.{Tables, table_at, id_of}
 use Rattle.qe_schema.specs.Fits.{Ascending}
 use Rattle.qe_reading.specs.Look.{looked_up, whole_look}
-use Rattle.qe_reading.specs.Truth.{is_yes}
+use Rattle.qe_schema.specs.Tests.{is_yes}
 use Rattle.qe_reading.specs.Order.{value_by, place_of, directed, order_cmp, rows_cmp, ordered}
 use Rattle.qe_reading.proofs.Sorting.{AreApart, all_then, same_rows, is_sorted, is_stable, only_sorted, is_strict, Rising, rising_is_sorted}
 use Rattle.qe_reading.proofs.Layers.{truth_all}

@@ -14,7 +14,8 @@ use Rattle.qe_schema.specs.Columns.{at_columns, are_same}
 use Rattle.qe_schema.specs.Tables.{Tables, table_at, field_at}
 use Rattle.qe_reading.specs.Part.{IsPart, Empty, With, Without}
 use Rattle.qe_reading.specs.Related.{related, other_table, is_related_by}
-use Rattle.qe_reading.specs.Truth.{is_yes, truth_of, matching}
+use Rattle.qe_reading.specs.Truth.{truth_of, matching}
+use Rattle.qe_schema.specs.Tests.{is_yes}
 use Rattle.qe_reading.specs.Order.{rows_cmp, ordered}
 use Rattle.qe_reading.specs.Page.{AreDistinct, one_of_each, distinct_by, turned, is_backward, is_at, kept_from, from_first, from_cursor, front_of, part_of, page_of}
 use Rattle.qe_reading.specs.Look.{looked_up}

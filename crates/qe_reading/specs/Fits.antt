@@ -2,13 +2,7 @@
 use Rattle.std.specs.Prelude as Prelude
 use Rattle.std.specs.Prelude.{ℕ, ℤ, List, [], ◌∷◌, true, false, ◌&&◌, ◌||◌, not, map, length, nat_lt, slice_get, Option, Some, None}
 use Rattle.std.specs.List.{list_all}
-use Rattle.qe_base.specs.declared.value.Kind.{Kind}
-use Rattle.qe_base.specs.declared.value.Kind.TheVariants as kind
 use Rattle.qe_base.specs.declared.value.Value.{Value}
-use Rattle.qe_base.specs.declared.schema.Choice.{Choice}
-use Rattle.qe_base.specs.declared.schema.Column.{Column}
-use Rattle.qe_base.specs.declared.query.Test.{Test}
-use Rattle.qe_base.specs.declared.query.Test.TheVariants as test
 use Rattle.qe_base.specs.declared.query.Filter.{Filter, out-Filter}
 use Rattle.qe_base.specs.declared.query.Filter.TheOpen.{Filter-F}
 use Rattle.qe_base.specs.declared.query.Filter.TheOpen as filter
@@ -29,6 +23,7 @@ use Rattle.qe_base.specs.Schemas.{Schema}
 use Rattle.qe_scalars.specs.Numbers.{is_small}
 use Rattle.qe_schema.specs.Tables.{table_at, is_model, column_at}
 use Rattle.qe_schema.specs.Fits.{is_of_kind}
+use Rattle.qe_schema.specs.Tests.{test_fits}
 use Rattle.qe_reading.specs.Related.{other_table, is_to_many, is_to_one, is_some_such}
 
 -- a part that fits the table of a number
@@ -44,46 +39,6 @@ abbrev pub is_column : Schema → ℕ → ℕ → Prelude.Bool
 is_column schema table number = nat_lt number (length (table_at schema table).columns)
 
 -- ---- filters
-
--- all but true and false may stand in a list
-abbrev pub takes_list : Kind → Prelude.Bool
-takes_list kind.Text = true
-takes_list kind.Bool = false
-takes_list kind.Int = true
-takes_list kind.Big = true
-takes_list kind.Moment = true
-takes_list kind.Blob = true
-takes_list (kind.Member enum) = true
-
--- texts, numbers and moments have an order
-abbrev pub takes_order : Kind → Prelude.Bool
-takes_order kind.Text = true
-takes_order kind.Bool = false
-takes_order kind.Int = true
-takes_order kind.Big = true
-takes_order kind.Moment = true
-takes_order kind.Blob = false
-takes_order (kind.Member enum) = false
-
-abbrev pub takes_search : Kind → Prelude.Bool
-takes_search kind.Text = true
-takes_search kind.Bool = false
-takes_search kind.Int = false
-takes_search kind.Big = false
-takes_search kind.Moment = false
-takes_search kind.Blob = false
-takes_search (kind.Member enum) = false
-
--- the test is one of the column's kind, with values of this kind; only an optional column is asked for null
-abbrev pub test_fits : List Choice → Test → Column → Prelude.Bool
-test_fits choices test.IsNull column = column.optional
-test_fits choices (test.Equals wanted) column = is_of_kind choices column.kind wanted
-test_fits choices (test.OneOf wanted) column = takes_list column.kind && list_all (is_of_kind choices column.kind) wanted
-test_fits choices (test.Less bound) column = takes_order column.kind && is_of_kind choices column.kind bound
-test_fits choices (test.AtMost bound) column = takes_order column.kind && is_of_kind choices column.kind bound
-test_fits choices (test.Greater bound) column = takes_order column.kind && is_of_kind choices column.kind bound
-test_fits choices (test.AtLeast bound) column = takes_order column.kind && is_of_kind choices column.kind bound
-test_fits choices (test.Like how needle) column = takes_search column.kind
 
 abbrev pub filter_step : Schema → Filter-F Fitting → Fitting
 filter_step schema (filter.All parts) table = list_all (λ part. part table) parts

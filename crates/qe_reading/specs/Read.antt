@@ -14,7 +14,8 @@ use Rattle.qe_base.specs.declared.answer.Rule.TheVariants as rule
 use Rattle.qe_base.specs.Schemas.{Schema}
 use Rattle.qe_schema.specs.Tables.{Tables, table_at}
 use Rattle.qe_reading.specs.Related.{first_row}
-use Rattle.qe_reading.specs.Truth.{is_yes, truth_of}
+use Rattle.qe_reading.specs.Truth.{truth_of}
+use Rattle.qe_schema.specs.Tests.{is_yes}
 use Rattle.qe_reading.specs.Page.{is_at}
 use Rattle.qe_reading.specs.Look.{looked_up}
 use Rattle.qe_reading.specs.Shape.{all_shown, shape_of}

@@ -7,11 +7,3 @@ mod worked;
 
 pub use laws::{filters, orders, pages, reads, relations, truths};
 pub use worked::{filter_examples, fit_examples, order_examples, page_examples, read_examples};
-
-/// What a filter says of a row: null makes it unknown.
-#[derive(Clone, Copy, Debug, PartialEq, Eq)]
-pub enum Truth {
-    Yes,
-    No,
-    Unknown,
-}

@@ -14,7 +14,7 @@ fn scalar_json(alloc: Global, value: &Value) -> Result<Json, Memory>
 {
     match value {
         Value::Null => Ok(Json::Null),
-        Value::Text(text) => Ok(Json::try_from_str(alloc, text.as_str())?),
+        Value::Text(text) => Ok(Json::try_from_str(alloc, text.get().as_str())?),
         Value::Bool(_) => Ok(Json::Null),
         Value::Int(number) => Ok(Json::from(*number)),
         Value::Moment(_) => Ok(Json::Null),

@@ -78,7 +78,7 @@ pub fn find_of(alloc: Global, id: TableId, table: &Table, json: &Json) -> Result
     values.push(found)?;
     let at = Unique {
         key: 0,
-        values: Row { values },
+        values: Row::new(alloc, values)?,
         extra: Filter::All(Items::new(alloc)),
     };
     Ok(Some(Op::FindUnique {

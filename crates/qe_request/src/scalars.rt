@@ -7,7 +7,7 @@ ghost use Rattle.qe_scalars.specs.Numbers.{is_small as fits_small};
 ghost use Rattle.qe_forms.specs.Request.{value_of as value_by, all_of, given_in, values_of as values_by, value_at_column, small_number};
 
 use crate::members::{alone, names_columns};
-use qe_base::{Column, Items, Kind, Memory, Text, Value};
+use qe_base::{Column, Items, Kind, Memory, Value};
 use serde_json::Value as Json;
 use std::alloc::Global;
 
@@ -35,7 +35,7 @@ fn value_of(alloc: Global, kind: Kind, json: &Json) -> Result<Option<Value>, Mem
 {
     match kind {
         Kind::Text => match json.as_str() {
-            Some(text) => Ok(Some(Value::Text(Text::from_str(alloc, text)?))),
+            Some(text) => Ok(Some(Value::text(alloc, text)?)),
             None => Ok(None),
         },
         Kind::Bool => Ok(None),

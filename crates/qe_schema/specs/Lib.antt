@@ -11,3 +11,4 @@ pub mod Put
 pub mod References
 pub mod Sound
 pub mod Tables
+pub mod Tests

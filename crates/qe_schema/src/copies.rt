@@ -21,12 +21,12 @@ fn copy_indexes(alloc: Global, all: &Items<Items<u16>>) -> Result<Items<Items<u1
     Ok(copy)
 }
 
-fn copy_fill(alloc: Global, fill: &Fill) -> Result<Fill, Memory>
+fn copy_fill(fill: &Fill) -> Result<Fill, Memory>
     ensures { IfOk result (λ copy. copy ≡ fill.now) }
 {
     match fill {
         Fill::Absent => Ok(Fill::Absent),
-        Fill::Literal(value) => Ok(Fill::Literal(value.copy(alloc)?)),
+        Fill::Literal(value) => Ok(Fill::Literal(value.share()?)),
         Fill::Counter => Ok(Fill::Counter),
         Fill::Now => Ok(Fill::Now),
         Fill::Uuid => Ok(Fill::Uuid),
@@ -41,7 +41,7 @@ fn copy_column(alloc: Global, column: &Column) -> Result<Column, Memory>
         stored: column.stored.copy(alloc)?,
         kind: column.kind,
         optional: column.optional,
-        fill: copy_fill(alloc, &column.fill)?,
+        fill: copy_fill(&column.fill)?,
         updated: column.updated,
     })
 }

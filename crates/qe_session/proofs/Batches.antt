@@ -126,7 +126,7 @@ none_counted a b c one other =
     record { later = grind (arith, same, other.later); rose = λ failed. subst (λ count. Rose count c) same (other.rose failed); still = λ none. other.still none ∙ same }
 
 both_made : (a b c one other : CallCounts) → MakesAtMost one a b → MakesAtMost other b c → MakesAtMost (both_calls one other) a c
-both_made a b c one other h k = record { loads = grind (arith, h.loads, k.loads); scans = grind (arith, h.scans, k.scans); lasts = grind (arith, h.lasts, k.lasts); applies = grind (arith, h.applies, k.applies) }
+both_made a b c one other h k = record { loads = grind (arith, h.loads, k.loads); scans = grind (arith, h.scans, k.scans); pages = grind (arith, h.pages, k.pages); lasts = grind (arith, h.lasts, k.lasts); applies = grind (arith, h.applies, k.applies) }
 
 told_by : (a b : Viewed) → b.below ≡ recounted a.below b.below → is_some a.below.told ≡ true → is_some b.below.told ≡ true
 told_by a b is told = ap (λ (below : Connected). is_some below.told) is ∙ told
@@ -146,7 +146,7 @@ then_leaves one other a b c fault h k = record {
 -- ---- sums of calls
 
 front_calls : (schema : Schema) (front back : List Op) → all_calls schema (front ++ back) ≡ both_calls (all_calls schema front) (all_calls schema back)
-front_calls schema [] back = λ i. record { loads = zero (all_calls schema back).loads i; scans = zero (all_calls schema back).scans i; lasts = zero (all_calls schema back).lasts i; applies = zero (all_calls schema back).applies i }
+front_calls schema [] back = λ i. record { loads = zero (all_calls schema back).loads i; scans = zero (all_calls schema back).scans i; pages = zero (all_calls schema back).pages i; lasts = zero (all_calls schema back).lasts i; applies = zero (all_calls schema back).applies i }
   where
     zero : (n : ℕ) → n ≡ 0 + n
     zero n = grind arith
@@ -156,10 +156,10 @@ front_calls schema (op ∷ front) back = ap (both_calls (calls_of schema op)) (f
     sums a b c = grind arith
 
     grouped : (a b c : CallCounts) → both_calls a (both_calls b c) ≡ both_calls (both_calls a b) c
-    grouped a b c = λ i. record { loads = sums a.loads b.loads c.loads i; scans = sums a.scans b.scans c.scans i; lasts = sums a.lasts b.lasts c.lasts i; applies = sums a.applies b.applies c.applies i }
+    grouped a b c = λ i. record { loads = sums a.loads b.loads c.loads i; scans = sums a.scans b.scans c.scans i; pages = sums a.pages b.pages c.pages i; lasts = sums a.lasts b.lasts c.lasts i; applies = sums a.applies b.applies c.applies i }
 
 within : (a b x y z : CallCounts) → MakesAtMost (both_calls x y) a b → MakesAtMost (both_calls x (both_calls y z)) a b
-within a b x y z h = record { loads = grind (arith, h.loads); scans = grind (arith, h.scans); lasts = grind (arith, h.lasts); applies = grind (arith, h.applies) }
+within a b x y z h = record { loads = grind (arith, h.loads); scans = grind (arith, h.scans); pages = grind (arith, h.pages); lasts = grind (arith, h.lasts); applies = grind (arith, h.applies) }
 
 -- what a front and one operation more leave is within what all may
 of_all : (schema : Schema) (front back : List Op) (op : Op) (a c : Viewed) (fault : Option ConnFault) → Leaves (both_calls (all_calls schema front) (calls_of schema op)) a c fault → Leaves (all_calls schema (front ++ op ∷ back)) a c fault

@@ -134,9 +134,9 @@ fault_causes reply index before after is cause = subst (λ (r : Reply). HasCause
 
 most : (a b c need : CallCounts) → MakesAtMost need a b → b.applies ≡ a.applies → (c ≡ b) ⊎ (c ≡ with_apply b) → MakesAtMost (both_calls need one_apply) a c
 most a b c need within none (inl same) = subst (λ (calls : CallCounts). MakesAtMost (both_calls need one_apply) a calls) (sym same)
-    (record { loads = grind (arith, within.loads); scans = grind (arith, within.scans); lasts = grind (arith, within.lasts); applies = grind (arith, within.applies) })
+    (record { loads = grind (arith, within.loads); scans = grind (arith, within.scans); pages = grind (arith, within.pages); lasts = grind (arith, within.lasts); applies = grind (arith, within.applies) })
 most a b c need within none (inr one) = subst (λ (calls : CallCounts). MakesAtMost (both_calls need one_apply) a calls) (sym one)
-    (record { loads = grind (arith, within.loads); scans = grind (arith, within.scans); lasts = grind (arith, within.lasts); applies = grind (arith, none) })
+    (record { loads = grind (arith, within.loads); scans = grind (arith, within.scans); pages = grind (arith, within.pages); lasts = grind (arith, within.lasts); applies = grind (arith, none) })
 
 applied : (before mid : Viewed) (after : Connected) → mid.below.told ≡ before.below.told → mid.below.calls.applies ≡ before.below.calls.applies
     → ((after.calls ≡ mid.below.calls) × (after.told ≡ mid.below.told)) ⊎ (after.calls ≡ with_apply mid.below.calls)
@@ -277,6 +277,6 @@ pub nothing : (schema : Schema) (asked : What) (told : Reply) (before after : Co
 nothing schema asked told before after none is same = subst (λ (below : Connected). Does schema asked told before below) (sym same) (record {
   done = inr (inl (is, (refl, (refl, λ sure. sure))));
   causes = memory_causes told before before (refl, λ sure. sure) is;
-  calls = record { most = record { loads = grind arith; scans = grind arith; lasts = grind arith; applies = grind arith }; applied = inl (refl, refl); reads = λ only. refl; greeting = λ h. refl };
+  calls = record { most = record { loads = grind arith; scans = grind arith; pages = grind arith; lasts = grind arith; applies = grind arith }; applied = inl (refl, refl); reads = λ only. refl; greeting = λ h. refl };
   attached = refl;
 })

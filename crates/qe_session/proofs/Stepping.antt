@@ -6,11 +6,11 @@ use Rattle.qe_base.specs.declared.event.Reply.{Reply}
 use Rattle.qe_base.specs.declared.event.Reply.TheVariants as replies
 use Rattle.qe_base.specs.declared.event.What.{What}
 use Rattle.qe_base.specs.declared.event.What.TheVariants as what
-use Rattle.qe_history.specs.History.{Entered}
+use Rattle.qe_history.specs.History.{Entered, IsGreeting}
 use Rattle.qe_history.specs.State.{Clears, ComesOf, Fails, FailsAt, State, Step, has_seen}
 use Rattle.qe_schema.specs.Tables.{Tables}
 use Rattle.qe_view.specs.Attached.{Connected}
-use Rattle.qe_session.specs.Handling.{Does, DoesAs, DoesFail, GoesOn, Moves, TellsUnseen}
+use Rattle.qe_session.specs.Handling.{Does, DoesAs, DoesFail, GoesOn, GreetsBack, Moves, TellsUnseen}
 use Rattle.qe_session.specs.Standing.{StandsForState}
 
 -- a history goes on where each state moves
@@ -38,6 +38,10 @@ as_asked schema place event asked reply before after is moves = subst (λ (w : W
 pub greeted : (schema : Schema) (place : ℕ) (event : Event) (reply : Reply) (before after : Connected) → event.what ≡ what.Hello → reply ≡ replies.Hello → after ≡ before → Moves schema place event reply before after
 greeted schema place event reply before after asked replied same = as_asked schema place event what.Hello reply before after asked
     (λ state stands. (state, stays schema before after state same stands, inl (replied, refl)))
+
+-- what is no greeting needs no greeting back
+pub no_greeting : (asked other : What) (reply : Reply) → asked ≡ other → (IsGreeting other → ⊥) → GreetsBack asked reply
+no_greeting asked other reply is none = λ greets. absurd (none (subst IsGreeting is greets))
 
 -- an event that has operations
 abbrev pub HasOperations : What → Type 0

@@ -41,6 +41,10 @@ Fits schema _ = ⊥
 abbrev pub TellsUnseen : ℕ → Option ℕ → Reply → Type 0
 TellsUnseen place seen reply = RefusesUnseen place seen reply ⊎ (reply ≡ replies.Memory)
 
+-- the reply to a greeting is a greeting
+abbrev pub GreetsBack : What → Reply → Type 0
+GreetsBack asked reply = IsGreeting asked → reply ≡ replies.Hello
+
 -- from each state that was stood for this is a step to one that now is
 abbrev pub Moves : Schema → ℕ → Event → Reply → Connected → Connected → Type 0
 Moves schema place event reply before after = (state : State) → StandsForState schema before state → (next : State) × StandsForState schema after next × Step state place event reply next
@@ -75,7 +79,7 @@ pub record HasCauses (reply : Reply) (before after : Connected) : Type 0 where
 
 -- one call to apply changes, if any
 abbrev pub one_apply : CallCounts
-one_apply = record { loads = 0; scans = 0; lasts = 0; applies = 1 }
+one_apply = record { loads = 0; scans = 0; pages = 0; lasts = 0; applies = 1 }
 
 -- Of the connector no more calls were made than the operations need and one to apply changes; none of that kind where
 -- the tables are told as before unless it failed, and none for reads; no call at all for a greeting.

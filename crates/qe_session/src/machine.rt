@@ -5,7 +5,7 @@ ghost use Rattle.qe_base.specs.declared.event.What.TheVariants as what;
 ghost use Rattle.qe_forms.specs.Reply.{told_text};
 ghost use Rattle.qe_history.specs.State.{has_seen};
 ghost use Rattle.qe_overlay.specs.Fits.{HasLayout};
-ghost use Rattle.qe_session.specs.Handling.{Calls, Does, Fits, GoesOn, HasCauses, Moves, TellsUnseen, is_handled};
+ghost use Rattle.qe_session.specs.Handling.{Calls, Does, Fits, GoesOn, GreetsBack, HasCauses, Moves, TellsUnseen, is_handled};
 ghost use Rattle.qe_session.specs.Standing.{Ready, StandsFor, first_state};
 ghost use Rattle.qe_view.specs.Attached.{FitLayout};
 ghost use Rattle.qe_view.specs.Layouts.{layout_of};
@@ -123,6 +123,7 @@ impl<C: Connector> Core<C> {
         requires ready { Ready C.seen self.old }
         requires fits { Fits self.old.schema event.now.what }
         ensures moves { Moves self.old.schema place event.now result.reply (C.seen self.old.view.below) (C.seen self.new.view.below) }
+        ensures greets { GreetsBack event.now.what result.reply }
         ensures text { result.text ≡ told_text self.old.schema result.reply }
         ensures causes { HasCauses result.reply (C.seen self.old.view.below) (C.seen self.new.view.below) }
         ensures calls { Calls self.old.schema event.now.what (C.seen self.old.view.below) (C.seen self.new.view.below) }
@@ -153,6 +154,7 @@ impl<C: Connector> Core<C> {
         requires ready { Ready C.seen self.old }
         requires fits { Fits self.old.schema event.now.what }
         ensures history { GoesOn self.old.schema place event.now result.reply (C.seen self.old.view.below) (C.seen self.new.view.below) }
+        ensures greets { GreetsBack event.now.what result.reply }
         ensures text { result.text ≡ told_text self.old.schema result.reply }
         ensures causes { HasCauses result.reply (C.seen self.old.view.below) (C.seen self.new.view.below) }
         ensures calls { Calls self.old.schema event.now.what (C.seen self.old.view.below) (C.seen self.new.view.below) }

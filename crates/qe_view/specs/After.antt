@@ -1,15 +1,18 @@
 -- What changes make of the tables of a schema, and what a table then holds.
-use Rattle.std.specs.Prelude.{ℕ, Bool, not, List, [], ◌∷◌, ◌++◌, map, filter}
+use Rattle.std.specs.Prelude.{ℕ, Bool, true, false, not, List, [], ◌∷◌, ◌++◌, map, filter, take, reverse, Option, Some, None}
 use Rattle.std.specs.List.{list_any}
 use Rattle.std.specs.Int.{int_max}
+use Rattle.std.specs.Ordering.{is_le, is_ge}
 use Rattle.qe_base.specs.declared.value.Row.{Row}
 use Rattle.qe_base.specs.declared.value.Value.{Value}
+use Rattle.qe_base.specs.declared.query.ColumnTest.{ColumnTest}
 use Rattle.qe_base.specs.declared.schema.Table.{Table}
 use Rattle.qe_base.specs.Schemas.{Schema}
-use Rattle.qe_schema.specs.Columns.{Values, at_columns, are_same}
+use Rattle.qe_schema.specs.Columns.{Values, at_columns, are_same, values_cmp}
 use Rattle.qe_schema.specs.Pairs.{with_pair, without_pair, both_values}
 use Rattle.qe_schema.specs.Put.{put_among}
 use Rattle.qe_schema.specs.Tables.{Tables, table_at, id_of, with_rows, with_last, with_pairs}
+use Rattle.qe_schema.specs.Tests.{passes}
 use Rattle.qe_view.specs.declared.changes.Change.{Change}
 use Rattle.qe_view.specs.declared.changes.Change.TheVariants.{Remove, Put, Unlink, Link, Counter}
 
@@ -45,3 +48,26 @@ is_wanted columns keys row = list_any (λ key. are_same (at_columns columns row)
 -- the rows of a table that have one of the keys in the columns
 abbrev pub rows_at : List ℕ → List Row → ℕ → Tables → List Row
 rows_at columns keys table tables = filter (is_wanted columns keys) (rows_in tables table)
+
+-- the rows of a table that pass the tests
+abbrev pub rows_passing : List ColumnTest → ℕ → Tables → List Row
+rows_passing tests table tables = filter (passes tests) (rows_in tables table)
+
+-- the row has this id or a later one, or an earlier one where it goes backward; with no id each row is meant
+abbrev pub is_from : Table → Option Row → Bool → Row → Bool
+is_from table None backward row = true
+is_from table (Some id) false row = is_ge (values_cmp (id_of table row) id.values)
+is_from table (Some id) true row = is_le (values_cmp (id_of table row) id.values)
+
+-- the last one first, where it goes backward
+abbrev pub turned : Bool → List Row → List Row
+turned false rows = rows
+turned true rows = reverse rows
+
+-- of rows in the order of their ids the first from an id, or from the end, at most so many
+abbrev pub page_among : Table → Option Row → Bool → ℕ → List Row → List Row
+page_among table from backward count rows = take count (turned backward (filter (is_from table from backward) rows))
+
+-- a page of a model
+abbrev pub page_in : Schema → Option Row → Bool → ℕ → ℕ → Tables → List Row
+page_in schema from backward count table tables = page_among (table_at schema table) from backward count (tables.rows table)

@@ -2,6 +2,7 @@
 use Rattle.std.specs.Prelude.{◌≡◌, ℕ, List, Option, Some, None, option_map, Result, OnOk, OnErr, IfErr, IsErrOf, IfSome, IsSomeAnd, [], true}
 use Rattle.qe_base.specs.Causes.{Faults, HasCause}
 use Rattle.qe_base.specs.Schemas.{Schema}
+use Rattle.qe_base.specs.declared.query.ColumnTest.{ColumnTest}
 use Rattle.qe_base.specs.declared.value.Row.{Row}
 use Rattle.qe_schema.specs.Fits.{FitsSchema}
 use Rattle.qe_schema.specs.Tables.{Tables, no_rows}
@@ -9,7 +10,7 @@ use Rattle.qe_view.specs.declared.changes.Change.{Change}
 use Rattle.qe_view.specs.declared.changes.AttachFault.{AttachFault}
 use Rattle.qe_view.specs.declared.changes.AttachFault.TheVariants as fault
 use Rattle.qe_view.specs.Calls.{CallCounts}
-use Rattle.qe_view.specs.Right.{has_table, can_load, are_right, ChangesLead}
+use Rattle.qe_view.specs.Right.{has_table, can_load, can_scan, can_page, are_right, ChangesLead}
 use Rattle.qe_view.specs.Layouts.{Layout}
 use Rattle.qe_view.specs.LayoutText.{layout_text}
 
@@ -88,6 +89,12 @@ HasTable seen table = HasShapes seen (λ shapes. has_table shapes table ≡ true
 
 abbrev pub CanLoad : Connected → ℕ → List ℕ → List Row → Type 0
 CanLoad seen table columns keys = HasShapes seen (λ shapes. can_load shapes table columns keys ≡ true)
+
+abbrev pub CanScan : Connected → ℕ → List ColumnTest → Type 0
+CanScan seen table tests = HasShapes seen (λ shapes. can_scan shapes table tests ≡ true)
+
+abbrev pub CanPage : Connected → ℕ → Option Row → Type 0
+CanPage seen table from = HasShapes seen (λ shapes. can_page shapes table from ≡ true)
 
 -- changes of the layout, which lead from the told tables to others that fit it
 abbrev pub CanApply : Connected → List Change → Type 0

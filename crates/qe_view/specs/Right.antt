@@ -3,13 +3,15 @@ use Rattle.std.specs.Prelude.{◌≡◌, ℕ, ℤ, pos, Bool, true, false, ◌&&
 use Rattle.std.specs.List.{list_all}
 use Rattle.qe_base.specs.declared.value.Row.{Row}
 use Rattle.qe_base.specs.declared.value.Value.{Value}
+use Rattle.qe_base.specs.declared.query.ColumnTest.{ColumnTest}
 use Rattle.qe_base.specs.declared.schema.Choice.{Choice}
 use Rattle.qe_base.specs.declared.schema.Column.{Column}
 use Rattle.qe_base.specs.Schemas.{Schema}
 use Rattle.qe_schema.specs.Columns.{Values, is_null}
 use Rattle.qe_schema.specs.Fits.{FitsSchema, fits_column, fit_columns}
 use Rattle.qe_schema.specs.Pairs.{both_values}
-use Rattle.qe_schema.specs.Tables.{Tables, table_at, is_model, is_link, id_columns, id_of, row_at}
+use Rattle.qe_schema.specs.Tables.{Tables, table_at, column_at, is_model, is_link, id_columns, id_of, row_at}
+use Rattle.qe_schema.specs.Tests.{test_fits}
 use Rattle.qe_view.specs.declared.changes.Change.{Change}
 use Rattle.qe_view.specs.declared.changes.Change.TheVariants.{Remove, Put, Unlink, Link, Counter}
 use Rattle.qe_view.specs.After.{after, after_all}
@@ -43,6 +45,23 @@ is_row_of schema table row = is_model schema table && fit_columns schema.choices
 -- an id of a model
 abbrev pub is_id_of : Schema → ℕ → Row → Bool
 is_id_of schema table id = is_model schema table && are_values_of schema.choices (table_at schema table).columns (id_columns (table_at schema table)) id.values
+
+-- a test that fits a column which is there
+abbrev pub is_fit_test : List Choice → ColumnTest → Option Column → Bool
+is_fit_test choices asked None = false
+is_fit_test choices asked (Some column) = test_fits choices asked.test column
+
+-- tests of columns of a table
+abbrev pub can_scan : Schema → ℕ → List ColumnTest → Bool
+can_scan schema table tests = has_table schema table && list_all (λ asked. is_fit_test schema.choices asked (column_at schema table asked.column)) tests
+
+abbrev pub is_id_or_none : Schema → ℕ → Option Row → Bool
+is_id_or_none schema table None = true
+is_id_or_none schema table (Some id) = is_id_of schema table id
+
+-- a model, and an id of it where one is given
+abbrev pub can_page : Schema → ℕ → Option Row → Bool
+can_page schema table from = is_model schema table && is_id_or_none schema table from
 
 -- a pair of a link table
 abbrev pub is_pair_of : Schema → ℕ → Value → Value → Bool

@@ -9,11 +9,11 @@ use qe_text::{Items, Memory};
 use std::alloc::Global;
 
 /// The value in a column, null where there is no such column.
-pub fn value_in(alloc: Global, row: &Row, column: u16) -> Result<Value, Memory>
+pub fn value_in(row: &Row, column: u16) -> Result<Value, Memory>
     ensures { IfOk result (λ value. value ≡ value_at row.now column) }
 {
-    match sqlite_items::at(row.values.as_slice(), column as usize) {
-        Some(value) => value.copy(alloc),
+    match sqlite_items::at(row.values(), column as usize) {
+        Some(value) => value.share(),
         None => Ok(Value::Null),
     }
 }
@@ -24,7 +24,7 @@ pub fn values_at(alloc: Global, columns: &[u16], row: &Row) -> Result<Items<Valu
 {
     let mut values = Items::new(alloc);
     for column in columns {
-        values.push(value_in(alloc, row, *column)?)?;
+        values.push(value_in(row, *column)?)?;
     }
     Ok(values)
 }
@@ -34,7 +34,7 @@ pub fn id_row(alloc: Global, columns: &[u16], row: &Row) -> Result<Row, Memory>
     ensures { IfOk result (λ id. id.values ≡ at_columns columns.now row.now) }
 {
     let values = values_at(alloc, columns, row)?;
-    Ok(Row { values })
+    Row::new(alloc, values)
 }
 
 /// A pair as a row of its link table.
@@ -42,9 +42,9 @@ pub fn pair_row(alloc: Global, a: &Value, b: &Value) -> Result<Row, Memory>
     ensures { IfOk result (λ row. row ≡ pair_row (a.now, b.now)) }
 {
     let mut values = Items::new(alloc);
-    values.push(a.copy(alloc)?)?;
-    values.push(b.copy(alloc)?)?;
-    Ok(Row { values })
+    values.push(a.share()?)?;
+    values.push(b.share()?)?;
+    Row::new(alloc, values)
 }
 
 /// Whether a value is null.
@@ -73,7 +73,7 @@ pub fn has_null(values: &[Value]) -> bool
 fn has_value(column: u16, value: &Value, row: &Row) -> bool
     ensures { result ≡ value_eq (value_at row.now column) value.now }
 {
-    match sqlite_items::at(row.values.as_slice(), column as usize) {
+    match sqlite_items::at(row.values(), column as usize) {
         Some(kept) => kept == value,
         None => Value::Null == *value,
     }
@@ -106,16 +106,16 @@ pub fn is_wanted(columns: &[u16], keys: &[Row], row: &Row) -> bool
     ensures { result ≡ is_wanted columns.now keys.now row.now }
 {
     keys.iter()
-        .any(|key| has_values(columns, key.values.as_slice(), row))
+        .any(|key| has_values(columns, key.values(), row))
 }
 
-/// Equal rows.
-pub fn copy_rows(alloc: Global, rows: &[Row]) -> Result<Items<Row>, Memory>
-    ensures { IfOk result (λ copies. copies ≡ rows.now) }
+/// The same rows for one more owner.
+pub fn share_rows(alloc: Global, rows: &[Row]) -> Result<Items<Row>, Memory>
+    ensures { IfOk result (λ shared. shared ≡ rows.now) }
 {
-    let mut copies = Items::new(alloc);
+    let mut shared = Items::new(alloc);
     for row in rows {
-        copies.push(row.copy(alloc)?)?;
+        shared.push(row.share()?)?;
     }
-    Ok(copies)
+    Ok(shared)
 }

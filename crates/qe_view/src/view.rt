@@ -1,15 +1,16 @@
 //! The tables that an operation works on.
 ghost use Rattle.std.specs.Prelude.{◌≡◌, ◌≤◌, true, length, OnOk, OnErr, IfSome};
-ghost use Rattle.qe_view.specs.After.{after, rows_in, rows_at};
+ghost use Rattle.std.specs.Option.{option_copied};
+ghost use Rattle.qe_view.specs.After.{after, rows_at, rows_passing, page_in};
 ghost use Rattle.qe_view.specs.Answers.{GivesRows, RowsFit, GivesLast};
-ghost use Rattle.qe_view.specs.Calls.{with_load, with_scan, with_last};
-ghost use Rattle.qe_view.specs.Right.{has_table, can_load, is_right};
+ghost use Rattle.qe_view.specs.Calls.{with_load, with_scan, with_page, with_last};
+ghost use Rattle.qe_view.specs.Right.{has_table, can_load, can_scan, can_page, is_right};
 ghost use Rattle.qe_view.specs.declared.changes.Change.TheVariants as change;
 ghost use Rattle.qe_schema.specs.Fits.{FitsSchema};
 ghost use Rattle.qe_view.specs.Versions.{Viewed, OnlyViewed, Changes, GoesBack, LeadsToFit, changed};
 
 use crate::ConnFault;
-use qe_base::{Row, Rows, TableId, Value};
+use qe_base::{ColumnTest, Row, Rows, TableId, Value};
 use qe_text::Memory;
 
 /// How many changes of a view were made that can be taken back.
@@ -38,13 +39,31 @@ pub trait View: Drop {
         ensures others { OnlyViewed with_load (seen self.old) (seen self.new) result }
         ensures stands { stands self.new };
 
-    /// All rows of a table, in the order of their ids. It makes at most one call below, a scan.
-    fn scan(&mut self, table: TableId) -> Result<Rows, ConnFault>
+    /// The rows of a table that pass all of the tests, in the order of their ids: all rows for no tests. It
+    /// makes at most one call below, a scan.
+    fn scan(&mut self, table: TableId, tests: &[ColumnTest]) -> Result<Rows, ConnFault>
         requires stands { stands self.old }
-        requires can { has_table (seen self.old).schema table.0 ≡ true }
-        ensures rows { GivesRows (seen self.old).now (λ tables. rows_in tables table.0) result }
+        requires can { can_scan (seen self.old).schema table.0 tests.now ≡ true }
+        ensures rows { GivesRows (seen self.old).now (rows_passing tests.now table.0) result }
         ensures rows_fit { RowsFit (seen self.old).schema table.0 result }
         ensures others { OnlyViewed with_scan (seen self.old) (seen self.new) result }
+        ensures stands { stands self.new };
+
+    /// At most `count` rows of a model in the order of their ids: those from an id on, with it, or from the
+    /// first one; backward those up to an id, with it, or up to the last one, that one first. It makes at
+    /// most one call below, a page.
+    fn page(
+        &mut self,
+        table: TableId,
+        from: Option<&Row>,
+        backward: bool,
+        count: usize,
+    ) -> Result<Rows, ConnFault>
+        requires stands { stands self.old }
+        requires can { can_page (seen self.old).schema table.0 (option_copied from) ≡ true }
+        ensures rows { GivesRows (seen self.old).now (page_in (seen self.old).schema (option_copied from.entry) backward count table.0) result }
+        ensures rows_fit { RowsFit (seen self.old).schema table.0 result }
+        ensures others { OnlyViewed with_page (seen self.old) (seen self.new) result }
         ensures stands { stands self.new };
 
     /// The counter of a table. It makes at most one call below, of the same kind.

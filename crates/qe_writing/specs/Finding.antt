@@ -6,7 +6,8 @@ use Rattle.qe_base.specs.declared.value.Row.{Row}
 use Rattle.qe_base.specs.declared.answer.Rule.{Rule}
 use Rattle.qe_base.specs.Schemas.{Schema}
 use Rattle.qe_reading.specs.Read.{found_at}
-use Rattle.qe_reading.specs.Truth.{truth_of, is_yes}
+use Rattle.qe_reading.specs.Truth.{truth_of}
+use Rattle.qe_schema.specs.Tests.{is_yes}
 use Rattle.qe_writing.specs.WriteState.{WriteState, ◌>>=◌, or_absent}
 
 abbrev pub found : Schema → ℕ → Unique → WriteState → Option Row

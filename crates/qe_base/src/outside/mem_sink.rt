@@ -1,5 +1,5 @@
 //! A place in memory to write to.
-ghost use Rattle.std.specs.Prelude.{◌≡◌, ◌+◌, ◌≤◌, ◌↔◌, [], Some, IfOk, IfSome, IsErr, IsSome, IsTrue, length, vec_capacity};
+ghost use Rattle.std.specs.Prelude.{◌≡◌, ◌+◌, ◌≤◌, ◌↔◌, [], Some, IfOk, IfSome, IsErr, IsSome, IsTrue, length, option_map, vec_capacity};
 
 use crate::outside::calls::Calls;
 use crate::outside::{Failed, Outer, Sink};
@@ -46,6 +46,17 @@ impl MemSink {
         self.taken.as_slice()
     }
 
+    /// How many bytes were taken, as long as it tells.
+    pub fn count(&self) -> Option<usize>
+        ensures { result ≡ option_map length (sink_taken self.now) }
+    {
+        if self.tells {
+            Some(self.taken.len())
+        } else {
+            None
+        }
+    }
+
     /// The bytes taken and a piece fit into the room together.
     fn has_room_for(&self, piece: &[u8]) -> bool
         ensures { IsTrue result ↔ (length self.now.taken.items + length piece.now ≤ self.now.room) }
@@ -63,7 +74,7 @@ impl Outer for MemSink {
 impl Sink for MemSink {
     ghost use Rattle.qe_base.specs.Outside.{Writes};
     ghost use Rattle.qe_base.specs.Calls.{MakesCall};
-    ghost use Rattle.qe_base.specs.MemSink.{sink_taken, sink_room, sink_writes, sink_seen};
+    ghost use Rattle.qe_base.specs.MemSink.{KeepsOn, sink_taken, sink_room, sink_writes, sink_seen};
 
     /// Takes the whole piece. One that goes past the room isn't kept, and no later one.
     fn write(&mut self, piece: &[u8]) -> Result<usize, Failed>
@@ -72,6 +83,7 @@ impl Sink for MemSink {
         ensures tells { IfOk result (λ _. IfSome (sink_taken self.old) (λ taken. IsSome (sink_taken self.new) ↔ (length taken + length piece.now ≤ sink_room self.old))) }
         ensures room { sink_room self.new ≡ sink_room self.old }
         ensures call { MakesCall (sink_writes self.old) (sink_writes self.new) (IsErr result) }
+        ensures keeps { KeepsOn self.old self.new piece.now }
     {
         self.writes.begin()?;
         self.tells = self.tells

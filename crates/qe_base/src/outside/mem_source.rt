@@ -28,7 +28,7 @@ pub struct MemSource {
 
 impl MemSource {
     ghost use Rattle.qe_base.specs.Calls.{no_calls};
-    ghost use Rattle.qe_base.specs.MemSource.{source_left, source_reads};
+    ghost use Rattle.qe_base.specs.MemSource.{source_given, source_left, source_reads};
 
     /// A source of these bytes. The numbers of the reads that are to fail count from 1.
     pub fn new(alloc: Global, bytes: &[u8], fail: &[u64]) -> Result<MemSource, Memory>
@@ -42,6 +42,13 @@ impl MemSource {
             given: 0,
             reads: Calls::new(failing),
         })
+    }
+
+    /// How many bytes were given.
+    pub fn given(&self) -> usize
+        ensures { result ≡ source_given self.now }
+    {
+        self.given
     }
 
     /// The bytes that are left.
@@ -62,13 +69,14 @@ impl Outer for MemSource {
 impl Source for MemSource {
     ghost use Rattle.qe_base.specs.Outside.{Reads};
     ghost use Rattle.qe_base.specs.Calls.{MakesCall};
-    ghost use Rattle.qe_base.specs.MemSource.{source_left, source_reads, source_seen};
+    ghost use Rattle.qe_base.specs.MemSource.{source_bytes, source_left, source_reads, source_seen};
 
     /// Gives as many bytes as fit.
     fn read(&mut self, into: &mut [u8]) -> Result<usize, Failed>
         ensures reads { Reads (source_seen self.old) (source_seen self.new) into.new result }
         ensures full { IfOk result (λ count. IfSome (source_left self.old) (λ left. count ≡ min (length left) (length into.new))) }
         ensures call { MakesCall (source_reads self.old) (source_reads self.new) (IsErr result) }
+        ensures same { source_bytes self.new ≡ source_bytes self.old }
     {
         self.reads.begin()?;
         let count = fill_front(into, self.left());

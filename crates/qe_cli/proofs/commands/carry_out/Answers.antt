@@ -1,5 +1,7 @@
-use Rattle.std.proofs.Common.{◌≡◌, map, string_bytes, refl, subst, sym}
+use Rattle.std.proofs.Common.{◌≡◌, map, string_bytes, ap, refl, subst, sym}
+use Rattle.qe_base.specs.Outside.{Seen}
 use Rattle.qe_cli.specs.Refused.{HasSchema, Unread}
+use Rattle.qe_cli.proofs.Asking.{asks_name, asks_still}
 use Rattle.qe_cli.proofs.Fetched.{obeyed, unread}
 use Rattle.qe_cli.proofs.commands.carry_out.Goals as goal
 
@@ -16,3 +18,10 @@ returns-clause-comes g c =
     let given = g.C.Connector.seen c.args.connector in
     unread c.in-Err.end (map string_bytes c.args.words.now) (seen c.args.host.now) (seen c.fetch.new.self) given given (c.args.connector ≡ c.args.connector) c.in-Some.name.now c.in-Ok.text c.in-Some.command
     (sym c.in-Some.ensures) c.in-Ok.ensures.bytes (subst (Unread c.in-Err.end) c.as_slice.ensures c.in-Err.ensures.err) c.fetch.ensures.others refl
+
+pub returns-in-Ok-read_schema-clause-asked : goal.returns-in-Ok-read_schema-clause-asked
+returns-in-Ok-read_schema-clause-asked g c =
+    let words = map string_bytes c.args.words.now in
+    let before = g.H.Outer.seen c.args.host.now in
+    let fetched = g.H.Outer.seen c.fetch.new.self in
+    asks_still words before fetched (g.H.Outer.seen c.obey.new.host) (ap (λ (s : Seen). s.asked) c.obey.ensures.others) (asks_name words c.in-Some.command c.in-Some.name.now before fetched (sym c.in-Some.ensures) c.fetch.ensures.asks)

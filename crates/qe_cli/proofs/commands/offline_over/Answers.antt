@@ -1,4 +1,8 @@
+use Rattle.std.proofs.Common.{ap, map, string_bytes}
+use Rattle.qe_base.specs.Outside.{Seen}
+use Rattle.qe_cli.proofs.Asking.{asks_still}
 use Rattle.qe_cli.proofs.Follows.{accepts, answered, apart, calm, fault, laid, limit, opened, opens, printed_causes, printed_comes, refused, refuses, shut, steady, still, usage, validated}
+use Rattle.qe_cli.proofs.Prompting.{prompt}
 use Rattle.qe_cli.proofs.commands.offline_over.Goals as goal
 
 pub returns-clause-ends : goal.returns-clause-ends
@@ -58,3 +62,12 @@ returns-clause-opens g c = opens _ _ _ _ _ _ _ (returns-clause-ends g c)
 
 pub returns-clause-refuses : goal.returns-clause-refuses
 returns-clause-refuses g c = refuses _ _ _ _ _ _ _ (returns-clause-ends g c)
+
+pub returns-clause-prompt : goal.returns-clause-prompt
+returns-clause-prompt g c = prompt _ _ _ _ _ _ _ (returns-clause-ends g c)
+
+pub returns-clause-asked : goal.returns-clause-asked
+returns-clause-asked g c =
+    let seen = g.H.Outer.seen in
+    let printed = c.print_end-printed in
+    asks_still (map string_bytes c.args.words.now) (seen c.args.host.now) (seen c.carry_out-end.new.host) (seen printed.new.host) (ap (λ (s : Seen). s.asked) printed.ensures.prints.others) c.carry_out-end.ensures.asked

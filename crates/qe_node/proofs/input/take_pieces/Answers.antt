@@ -29,7 +29,7 @@ pub returns-in-Err-clause-ran : goal.returns-in-Err-clause-ran
 returns-in-Err-clause-ran g c =
     let some : 0 < c.pieces.room = search rules in
     reading_fault longest_input c.args.schema.now c.pieces.pending.items c.pieces.room (g.C.Connector.seen c.args.core.now.view.below) (g.C.Connector.seen c.pieces.core.view.below) c.args.place.now c.pieces.place
-    (g.P.Outer.seen c.args.port.now) (g.P.Outer.seen c.pieces.port) (g.P.Outer.seen c.read_front.new.port) some c.pieces.invariant.one_line c.in-Err.ensures.failed c.read_front.ensures.others c.pieces.invariant.reading
+    (g.P.Outer.seen c.args.port.now) (g.P.Outer.seen c.pieces.port) (g.P.Outer.seen c.read_front.new.port) some c.pieces.invariant.one_line c.in-Err.ensures.failed c.read_front.ensures.others c.read_front.ensures.turn c.pieces.invariant.reading
 
 pub returns-then-count-eq0-clause-ran : goal.returns-then-count-eq0-clause-ran
 returns-then-count-eq0-clause-ran g c =
@@ -46,8 +46,8 @@ returns-then-count-eq0-clause-ran g c =
     let most_some : 0 < c.min-most.result = search rules in
     subst (λ e. RunsOn e schema below after c.args.place.now c.take_line-last.new.place before next) (sym c.end_after.ensures)
     (reading_last last schema c.pieces.pending.items c.read_front.new.piece c.in-Ok.count c.pieces.room below middle after c.args.place.now c.pieces.place c.take_line-last.new.place before now then next some c.if-count-eq0.true
-    c.pieces.invariant.one_line c.pieces.invariant.reading c.read_front.ensures.others c.in-Ok.ensures.bytes (c.in-Ok.ensures.end most_some)
-    (subst (λ p. Takes (is_err last) schema (filled (p ∷ [])) middle after c.pieces.place c.take_line-last.new.place then next) c.as_slice.ensures.value c.take_line-last.ensures.takes) (ap (λ (x : Seen). x.left) c.take_line-last.ensures.wrote.others))
+    c.pieces.invariant.one_line c.pieces.invariant.reading c.read_front.ensures.others c.read_front.ensures.turn c.in-Ok.ensures.bytes (c.in-Ok.ensures.end most_some)
+    (subst (λ p. Takes (is_err last) schema (filled (p ∷ [])) middle after c.pieces.place c.take_line-last.new.place then next) c.as_slice.ensures.value c.take_line-last.ensures.takes) (ap (λ (x : Seen). x.left) c.take_line-last.ensures.wrote.others) (ap (λ (x : Seen). x.turns) c.take_line-last.ensures.wrote.others))
 
 pub pieces-preserved : goal.pieces-preserved
 pieces-preserved g c =
@@ -67,12 +67,12 @@ pieces-preserved g c =
     let some : 0 < c.pieces.room = search rules in
     let read : c.in-Ok.count ≤ c.pieces.room = omega (arith, c.in-Ok.ensures.within, c.min-most.ensures) in
     let shorter : within ≤ c.in-Ok.count = elim c.if-room-eq0.branch [ then-room-eq0 w ↦ omega (arith, w.within-is) | else-room-eq0 w ↦ omega (arith, w.within-is) ] in record {
-      reading = reading_more longest_input schema pending later front within c.pieces.room less below middle after c.args.place.now c.pieces.place c.take_lines.new.place before now then next some (omega (arith, c.split_at.ensures.front_len, read))
+      reading = reading_more longest_input schema pending later front within c.pieces.room less below middle after c.args.place.now c.pieces.place c.take_lines.new.place before now then next some c.pieces.invariant.one_line (omega (arith, c.split_at.ensures.front_len, read))
           (λ more. elim c.if-room-eq0.branch [ then-room-eq0 w ↦ absurd (omega arith) | else-room-eq0 w ↦ omega (arith, c.split_at.ensures.front_len, w.within-is) ])
           (λ none. elim c.if-room-eq0.branch [ then-room-eq0 w ↦ omega (arith, c.split_at.ensures.front_len, w.within-is, c.if-count-eq0.false) | else-room-eq0 w ↦ absurd (omega arith) ])
-          c.pieces.invariant.reading c.read_front.ensures.others (subst (λ f. IfSome then.left (λ rest. now.left ≡ Some (f ++ rest))) (sym c.split_at.ensures.front) c.in-Ok.ensures.bytes)
+          c.pieces.invariant.reading c.read_front.ensures.others c.read_front.ensures.turn (subst (λ f. IfSome then.left (λ rest. now.left ≡ Some (f ++ rest))) (sym c.split_at.ensures.front) c.in-Ok.ensures.bytes)
           (subst (λ b. TakesWhole schema (pending ++ b) later middle after c.pieces.place c.take_lines.new.place then next) c.split_at-in-pieces.ensures.front c.in-Ok-take_lines.ensures.ok)
-          (ap (λ (x : Seen). x.left) c.take_lines.ensures.wrote.others);
+          (ap (λ (x : Seen). x.left) c.take_lines.ensures.wrote.others) (ap (λ (x : Seen). x.turns) c.take_lines.ensures.wrote.others);
       some = search rules;
       one_line = c.in-Ok-take_lines.ensures.one_line;
       few = omega (arith, c.take_lines.ensures.room, c.split_at-in-pieces.ensures.front_len, shorter, read, c.pieces.invariant.few);
@@ -101,10 +101,10 @@ returns-in-Err-take_lines-clause-ran g c =
     let why = c.in-Err-take_lines.why in
     let some : 0 < c.pieces.room = search rules in
     subst (λ e. RunsOn e schema below after c.args.place.now c.take_lines.new.place before next) (sym c.end_of.ensures)
-    (reading_stops why schema pending front c.if-room-eq0.within c.pieces.room below middle after c.args.place.now c.pieces.place c.take_lines.new.place before now then next some c.pieces.invariant.reading c.read_front.ensures.others
+    (reading_stops why schema pending front c.if-room-eq0.within c.pieces.room below middle after c.args.place.now c.pieces.place c.take_lines.new.place before now then next some c.pieces.invariant.one_line c.pieces.invariant.reading c.read_front.ensures.others c.read_front.ensures.turn
     (subst (λ f. IfSome then.left (λ rest. now.left ≡ Some (f ++ rest))) (sym c.split_at.ensures.front) c.in-Ok.ensures.bytes)
     (subst (λ b. TakesSome (cuts why) schema (pending ++ b) middle after c.pieces.place c.take_lines.new.place then next) c.split_at-in-pieces.ensures.front c.in-Err-take_lines.ensures.stops)
-    (ap (λ (x : Seen). x.left) c.take_lines.ensures.wrote.others))
+    (ap (λ (x : Seen). x.left) c.take_lines.ensures.wrote.others) (ap (λ (x : Seen). x.turns) c.take_lines.ensures.wrote.others))
 
 pub returns-clause-ran : goal.returns-clause-ran
 returns-clause-ran g c =

@@ -1,55 +1,52 @@
-use Rattle.std.proofs.Common.{ap, sym, ◌∙◌, subst, map}
-use Rattle.std.specs.List.{All}
-use Rattle.qe_view.specs.After.{after_all}
-use Rattle.qe_view.specs.Attached.{shapes_of}
-use Rattle.qe_mem.specs.Kept.{tables_of, columns_of, ArePairs}
-use Rattle.qe_mem.specs.Steps.{stepped_all, IsWithin, HasItsId, TakesNoMemory}
-use Rattle.qe_mem.proofs.Keeping.{tables_by_contents}
-use Rattle.qe_mem.proofs.Stepping.{told_stepped_all, all_within, all_sound, all_by_recursion, columns_stepped_all, pairs_stepped_all, pairs_by_contents}
+use Rattle.std.proofs.Common.{◌≡◌, ◌∙◌, ap, sym, subst, map, refl}
+use Rattle.qe_mem.specs.Kept.{AreExact, MakesRight, columns_of, orders_of}
+use Rattle.qe_mem.specs.Plans.{CanEnterTable, CanSettleTable, entered_table, settled_table, raised_all, noted_all, plans_for}
+use Rattle.qe_mem.specs.Each.{each, AllOfBoth}
+use Rattle.qe_mem.proofs.Exactness.{done_all, all_can_enter, all_can_settle, all_stay_exact, all_columns, all_orders}
+use Rattle.qe_mem.proofs.Noting.{nothing_pending, none_pending, all_pending}
+use Rattle.qe_mem.proofs.Making.{makes_right, all_raised_exact, all_raised_same, raised_to_end}
 use Rattle.qe_mem.proofs.tables.MemTables.apply.Goals as goal
 
-pub reserve_all-requires-clause-within : goal.reserve_all-requires-clause-within
-reserve_all-requires-clause-within c =
-    subst (All (IsWithin c.args.self.now)) (sym (c.deref-2.ensures.value ∙ c.in_ok-steps.ensures))
-    (all_within (shapes_of c.args.layout.now) c.args.changes.now c.args.self.now c.requires.kept c.requires.right)
+pub enter-requires : goal.enter-requires
+enter-requires c =
+    let kept = c.args.self.now in
+    let pendings = noted_all kept c.args.changes.now (nothing_pending kept) in
+    subst (λ plans. AllOfBoth CanEnterTable plans kept) (sym (c.as_slice.ensures ∙ c.in_ok-plans.ensures)) (all_can_enter pendings kept c.requires (all_pending kept c.args.changes.now (nothing_pending kept) (none_pending kept)))
 
-pub reserve_all-requires-clause-sound : goal.reserve_all-requires-clause-sound
-reserve_all-requires-clause-sound c =
-    subst (All (HasItsId c.args.self.now)) (sym (c.deref-2.ensures.value ∙ c.in_ok-steps.ensures))
-    (all_sound (shapes_of c.args.layout.now) c.args.changes.now c.args.self.now c.requires.kept)
+pub settle-requires : goal.settle-requires
+settle-requires c =
+    let kept = c.args.self.now in
+    let pendings = noted_all kept c.args.changes.now (nothing_pending kept) in
+    let entered = c.in_ok-enter.ensures.ok ∙ ap (λ plans. each entered_table plans kept) (c.as_slice.ensures ∙ c.in_ok-plans.ensures) in
+    subst (AllOfBoth CanSettleTable c.in_ok-plans.plans) (sym entered)
+    (subst (λ plans. AllOfBoth CanSettleTable plans (each entered_table (plans_for pendings kept) kept)) (sym c.in_ok-plans.ensures) (all_can_settle pendings kept c.requires (all_pending kept c.args.changes.now (nothing_pending kept) (none_pending kept))))
 
-pub returns-in-Err-clause-err : goal.returns-in-Err-clause-err
-returns-in-Err-clause-err c = tables_by_contents c.sweep_all.new.self c.args.self.now (c.sweep_all.ensures.contents ∙ c.reserve_all.ensures.contents)
-
-pub returns-in-Err-clause-pairs : goal.returns-in-Err-clause-pairs
-returns-in-Err-clause-pairs c = pairs_by_contents c.args.self.now c.sweep_all.new.self (sym (c.sweep_all.ensures.contents ∙ c.reserve_all.ensures.contents)) c.requires.pairs
-
-pub set_all-requires : goal.set_all-requires
-set_all-requires c = all_by_recursion _ _ (subst (All (TakesNoMemory c.reserve_all.new.self)) c.deref-2.ensures.value c.in_default.ensures.ready)
+-- what was made at the end
+ended : (c : goal.After-loop-change) → c.loop-change.self ≡ raised_all c.args.changes.now (done_all (noted_all c.args.self.now c.args.changes.now (nothing_pending c.args.self.now)) c.args.self.now)
+ended c =
+    let kept = c.args.self.now in
+    let pendings = noted_all kept c.args.changes.now (nothing_pending kept) in
+    let entered = c.in_ok-enter.ensures.ok ∙ ap (λ plans. each entered_table plans kept) (c.as_slice.ensures ∙ c.in_ok-plans.ensures) in
+    raised_to_end c.args.changes.now c.loop-change.change-index c.settle.new.self c.loop-change.self c.loop-change-test.false c.loop-change.invariant
+    ∙ ap (raised_all c.args.changes.now) (c.settle.ensures ∙ ap (λ plans. each settled_table plans c.enter.new.self) c.in_ok-plans.ensures ∙ ap (each settled_table (plans_for pendings kept)) entered)
 
 pub returns-clause-ok : goal.returns-clause-ok
-returns-clause-ok c =
-    let schema = shapes_of c.args.layout.now in
-    let changes = c.args.changes.now in
-    let placed = c.reserve_all.new.self in
-    tables_by_contents c.sweep_all-2.new.self c.set_all.new.self c.sweep_all-2.ensures.contents
-    ∙ ap tables_of c.set_all.ensures
-    ∙ ap (λ steps. tables_of (stepped_all steps placed)) c.in_ok-steps.ensures
-    ∙ told_stepped_all schema changes placed (c.reserve_all.ensures.columns ∙ c.requires.kept) c.requires.right
-    ∙ ap (after_all schema changes) (tables_by_contents placed c.args.self.now c.reserve_all.ensures.contents)
+returns-clause-ok c = subst (MakesRight c.args.changes.now c.args.self.now) (sym (ended c)) (makes_right c.args.self.now c.args.changes.now c.requires)
 
-pub returns-clause-kept : goal.returns-clause-kept
-returns-clause-kept c =
-    c.sweep_all-2.ensures.columns
-    ∙ ap (map columns_of) c.set_all.ensures
-    ∙ columns_stepped_all c.in_ok-steps.steps.items c.reserve_all.new.self
-    ∙ c.reserve_all.ensures.columns
-    ∙ c.requires.kept
+pub returns-clause-exact : goal.returns-clause-exact
+returns-clause-exact c =
+    let kept = c.args.self.now in
+    let pendings = noted_all kept c.args.changes.now (nothing_pending kept) in
+    subst AreExact (sym (ended c)) (all_raised_exact c.args.changes.now (done_all pendings kept) (all_stay_exact pendings kept c.requires (all_pending kept c.args.changes.now (nothing_pending kept) (none_pending kept))))
 
-pub returns-clause-pairs : goal.returns-clause-pairs
-returns-clause-pairs c =
-    pairs_by_contents c.set_all.new.self c.sweep_all-2.new.self (sym c.sweep_all-2.ensures.contents)
-    (subst ArePairs (sym c.set_all.ensures)
-    (pairs_stepped_all c.in_ok-steps.steps.items c.reserve_all.new.self
-    (all_by_recursion _ _ (subst (All (TakesNoMemory c.reserve_all.new.self)) c.deref-2.ensures.value c.in_default.ensures.ready))
-    (pairs_by_contents c.args.self.now c.reserve_all.new.self (sym c.reserve_all.ensures.contents) c.requires.pairs)))
+pub returns-clause-columns : goal.returns-clause-columns
+returns-clause-columns c =
+    let kept = c.args.self.now in
+    let pendings = noted_all kept c.args.changes.now (nothing_pending kept) in
+    ap (map columns_of) (ended c) ∙ all_raised_same columns_of (λ table last. refl) c.args.changes.now (done_all pendings kept) ∙ all_columns pendings kept
+
+pub returns-clause-orders : goal.returns-clause-orders
+returns-clause-orders c =
+    let kept = c.args.self.now in
+    let pendings = noted_all kept c.args.changes.now (nothing_pending kept) in
+    ap (map orders_of) (ended c) ∙ all_raised_same orders_of (λ table last. refl) c.args.changes.now (done_all pendings kept) ∙ all_orders pendings kept

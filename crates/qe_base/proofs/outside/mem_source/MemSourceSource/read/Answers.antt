@@ -19,6 +19,7 @@ returns-clause-reads c = record {
   bytes = moved c.args.self.now.given _ c.args.self.now.bytes _ _ c.left.ensures.left c.fill_front-count.ensures.front;
   end = ended _ c.args.self.now.given c.args.self.now.bytes _ _ c.left.ensures.left c.fill_front-count.ensures.count;
   failed = search rules;
+  turn = tt;
   cause = search rules;
   others = search rules;
 }

@@ -1,0 +1,3 @@
+mod Empty
+mod Fitting
+mod Joined
