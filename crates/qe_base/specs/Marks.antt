@@ -1,5 +1,5 @@
 -- Where the reads of a host in memory began.
-use Rattle.std.specs.Prelude.{ℕ, Bool, nat_le, List, [], Option, Some, map, drop, take, unwrap_or}
+use Rattle.std.specs.Prelude.{◌≡◌, ℕ, Bool, nat_le, List, [], ◌∷◌, ◌++◌, Option, Some, IsSomeAnd, length, map, drop, take, unwrap_or}
 use Rattle.std.specs.List.{list_all}
 use Rattle.qe_base.specs.declared.outside.marks.Mark.{Mark}
 use Rattle.qe_base.specs.Outside.{Turn}
@@ -18,3 +18,7 @@ turn_at bytes written mark = record { left = Some (drop mark.given bytes); taken
 
 abbrev pub turns_at : List ℕ → List ℕ → List Mark → List Turn
 turns_at bytes written marks = map (turn_at bytes written) marks
+
+-- the marks of earlier reads and one more, of what was given and taken by then
+abbrev pub AddsMark : Option (List Mark) → ℕ → Option (List ℕ) → List Mark → Type 0
+AddsMark marks given taken all = IsSomeAnd marks (λ earlier. IsSomeAnd taken (λ bytes. all ≡ earlier ++ record { given = given; taken = length bytes } ∷ []))

@@ -1,5 +1,5 @@
 -- What is seen of a sink in memory.
-use Rattle.std.specs.Prelude.{◌≡◌, ◌⊎◌, ℕ, List, ◌++◌, Option, Some, None, if◌then◌else◌}
+use Rattle.std.specs.Prelude.{◌≡◌, ◌⊎◌, ◌↔◌, ◌≤◌, ◌+◌, ℕ, List, length, ◌++◌, Option, Some, None, IfSome, IsSome, if◌then◌else◌}
 use Rattle.qe_base.specs.declared.outside.calls.Calls.{Calls}
 use Rattle.qe_base.specs.declared.outside.mem_sink.MemSink.{MemSink}
 use Rattle.qe_base.specs.Calls.{faults_of}
@@ -21,6 +21,10 @@ KeepsOn before after piece = (sink_kept after ≡ sink_kept before) ⊎ (sink_ke
 -- how many bytes it has room for
 abbrev pub sink_room : MemSink → ℕ
 sink_room sink = sink.room
+
+-- having told before, it tells after a piece of so many bytes just where there was room for them
+abbrev pub TellsWithin : MemSink → MemSink → ℕ → Type 0
+TellsWithin before after count = IfSome (sink_taken before) (λ taken. IsSome (sink_taken after) ↔ (length taken + count ≤ sink_room before))
 
 -- the writes so far, and those that are to fail
 abbrev pub sink_writes : MemSink → Calls

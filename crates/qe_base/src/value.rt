@@ -127,9 +127,20 @@ impl Value {
             Value::Member(member) => i64::from(*member),
         }
     }
+
+    /// Compares values of any kinds.
+    fn compare(&self, other: &Value) -> Ordering
+        ensures { result ≡ value_cmp self.now other.now }
+    {
+        self.rank()
+            .cmp(&other.rank())
+            .then(self.bytes().cmp(other.bytes()))
+            .then(self.number().cmp(&other.number()))
+    }
 }
 
-/// Null comes first. Texts and blobs go by their bytes, false before true, all others by number.
+/// Null comes first. Texts and blobs go by their bytes, false before true, all others by number. Two whole numbers, which
+/// most keys are, are compared without a look at kinds and bytes.
 impl Ord for Value {
     ghost cmp = { value_cmp };
 
@@ -140,10 +151,13 @@ impl Ord for Value {
     ghost matches_eq = { Prim.search (comparing, rules) };
 
     fn cmp(&self, other: &Value) -> Ordering {
-        self.rank()
-            .cmp(&other.rank())
-            .then(self.bytes().cmp(other.bytes()))
-            .then(self.number().cmp(&other.number()))
+        match self {
+            Value::Int(number) => match other {
+                Value::Int(wanted) => number.cmp(wanted),
+                _ => self.compare(other),
+            },
+            _ => self.compare(other),
+        }
     }
 }
 

@@ -28,25 +28,12 @@ pub struct Keyed {
     pub row: Row,
 }
 
-/// Compares two values. Two whole numbers, which most keys are, are compared without a look at kinds and bytes.
-fn compare_two(value: &Value, other: &Value) -> Ordering
-    ensures { result ≡ value_cmp value.now other.now }
-{
-    match value {
-        Value::Int(number) => match other {
-            Value::Int(wanted) => number.cmp(wanted),
-            _ => value.cmp(other),
-        },
-        _ => value.cmp(other),
-    }
-}
-
 /// Compares a value with what is in a column, null where there is no such column.
 fn compare_with(value: &Value, other: &Row, place: u16) -> Ordering
     ensures { result ≡ value_cmp value.now (value_at other.now place) }
 {
     match sqlite_items::at(other.values(), place as usize) {
-        Some(kept) => compare_two(value, kept),
+        Some(kept) => value.cmp(kept),
         None => value.cmp(&Value::Null),
     }
 }
@@ -56,7 +43,7 @@ fn compare_at(row: &Row, column: u16, value: &Value) -> Ordering
     ensures { result ≡ value_cmp (value_at row.now column) value.now }
 {
     match sqlite_items::at(row.values(), column as usize) {
-        Some(kept) => compare_two(kept, value),
+        Some(kept) => kept.cmp(value),
         None => Value::Null.cmp(value),
     }
 }
@@ -81,7 +68,7 @@ fn compare_values(values: &[Value], others: &[Value]) -> Ordering
         },
         [value, later @ ..] => match others {
             [] => Ordering::Greater,
-            [other, rest @ ..] => match compare_two(value, other) {
+            [other, rest @ ..] => match value.cmp(other) {
                 Ordering::Less => Ordering::Less,
                 Ordering::Greater => Ordering::Greater,
                 Ordering::Equal => compare_values(later, rest),

@@ -1,6 +1,6 @@
 -- The row of a key, and a row that is put.
 use Rattle.std.specs.Prelude as Prelude
-use Rattle.std.specs.Prelude.{◌≡◌, ℕ, ℤ, List, find, Option, Some, None, Result, Ok, Err, IfSome}
+use Rattle.std.specs.Prelude.{◌≡◌, true, ℕ, ℤ, List, find, Option, Some, None, Result, Ok, Err, IfSome}
 use Rattle.std.specs.List.{list_any}
 use Rattle.qe_base.specs.declared.answer.Rule.{Rule}
 use Rattle.qe_base.specs.declared.value.Row.{Row}
@@ -8,6 +8,7 @@ use Rattle.qe_base.specs.declared.value.Value.{Value}
 use Rattle.qe_base.specs.declared.value.Value.TheVariants.{Null, Text, Bool, Int, Moment, Blob, Member}
 use Rattle.qe_base.specs.Schemas.{Schema}
 use Rattle.qe_schema.specs.Columns.{Values, are_same, at_columns, holds, value_at}
+use Rattle.qe_schema.specs.Fits.{fit_columns}
 use Rattle.qe_schema.specs.Put.{broken_key, put_among, raised}
 use Rattle.qe_schema.specs.Tables.{Tables, table_at, with_rows, with_last}
 use Rattle.qe_view.specs.Versions.{Viewed}
@@ -18,6 +19,10 @@ use Rattle.qe_ops.specs.declared.refusal.Refusal.TheVariants as refusal
 -- the first row that has these values in the columns
 abbrev pub row_having : List ℕ → Values → List Row → Option Row
 row_having columns values rows = find (λ row. are_same (at_columns columns row) values) rows
+
+-- the row fits the columns of the table
+abbrev pub FitsTable : Schema → ℕ → Row → Type 0
+FitsTable schema table row = fit_columns schema.choices (table_at schema table).columns row.values ≡ true
 
 -- one of the rows has what this row has in the columns, none of it null
 abbrev pub is_among : List ℕ → Row → List Row → Prelude.Bool

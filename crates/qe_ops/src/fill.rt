@@ -35,9 +35,9 @@ pub fn fill(alloc: Global, columns: &[Column], values: &[(u16, Value)]) -> Resul
     requires { length columns.now ≤ 128 }
     ensures { IfOk result (λ row. row.values ≡ map (λ numbered. unwrap_or (given_for numbered.0 values.now) Null) (enumerate_from 0 columns.now)) }
 {
-    let mut filled = Items::new(alloc);
+    let mut filled = Vec::with_capacity(alloc, columns.len())?;
     for (number, _) in columns.iter().enumerate() {
         filled.push(value_for(number as u16, values)?)?;
     }
-    Row::new(alloc, filled)
+    Row::new(alloc, Items::from_vec(filled))
 }

@@ -4,13 +4,12 @@ ghost use Rattle.qe_text.specs.Lists.{In};
 ghost use Rattle.qe_base.specs.declared.schema.Key.{Key};
 ghost use Rattle.qe_view.specs.Right.{can_load, is_row_of};
 ghost use Rattle.qe_schema.specs.Keys.{KeyStands};
-ghost use Rattle.qe_schema.specs.Fits.{fit_columns};
 ghost use Rattle.qe_schema.specs.Put.{broken_key as first_broken_key};
 ghost use Rattle.qe_schema.specs.Tables.{table_at, is_model};
 ghost use Rattle.qe_reading.specs.Page.{columns_of};
 ghost use Rattle.qe_ops.specs.Bounds.{loads_alone};
 ghost use Rattle.qe_ops.specs.Leaves.{Leaves, Same, fault_in};
-ghost use Rattle.qe_ops.specs.Puts.{is_among, row_having};
+ghost use Rattle.qe_ops.specs.Puts.{FitsTable, is_among, row_having};
 
 use crate::model::table_of;
 use qe_base::{Key, Row, Rows, Table, TableId};
@@ -52,7 +51,7 @@ pub fn load<V: View>(
     requires model { is_model (V.seen view.old).schema table.0 ≡ true }
     requires can { can_load (V.seen view.old).schema table.0 columns.now (key ∷ []) ≡ true }
     ensures row { IfOk result (λ found. IfSome (V.seen view.old).now (λ tables. found ≡ row_having columns.now key.values (tables.rows table.0))) }
-    ensures fits { IfOk result (λ found. IfSome found (λ row. fit_columns (V.seen view.old).schema.choices (table_at (V.seen view.old).schema table.0).columns row.values ≡ true)) }
+    ensures fits { IfOk result (λ found. IfSome found (λ row. FitsTable (V.seen view.old).schema table.0 row)) }
     ensures same { Same (V.seen view.old) (V.seen view.new) }
     ensures stands { V.stands view.new }
     ensures leaves { Leaves (loads_alone 1) (V.seen view.old) (V.seen view.new) (fault_in result) }

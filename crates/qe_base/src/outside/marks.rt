@@ -1,5 +1,6 @@
 //! What a host in memory notes of its calls, as long as there is memory for that.
 ghost use Rattle.std.specs.Prelude.{◌≡◌, ◌++◌, ◌∷◌, [], IfSome, IsSomeAnd, length};
+ghost use Rattle.qe_base.specs.Marks.{AddsMark};
 ghost use Rattle.qe_base.specs.MemSink.{sink_taken};
 ghost use Rattle.qe_base.specs.MemSource.{source_given};
 
@@ -22,7 +23,7 @@ pub fn with_mark(
     source: &MemSource,
     sink: &MemSink,
 ) -> Option<Items<Mark>>
-    ensures { IfSome result (λ all. IsSomeAnd marks (λ earlier. IsSomeAnd (sink_taken sink.now) (λ taken. all ≡ earlier ++ record { given = source_given source.now; taken = length taken } ∷ []))) }
+    ensures { IfSome result (λ all. AddsMark marks (source_given source.now) (sink_taken sink.now) all) }
 {
     let mut marks = marks?;
     let taken = sink.count()?;

@@ -133,14 +133,14 @@ impl Source for MemHost {
 
 impl Sink for MemHost {
     ghost use Rattle.qe_base.specs.Calls.{MakesCall};
-    ghost use Rattle.qe_base.specs.MemSink.{sink_taken, sink_room, sink_writes};
+    ghost use Rattle.qe_base.specs.MemSink.{TellsWithin, sink_room, sink_writes};
     ghost use Rattle.qe_base.specs.MemHost.{host_seen, host_sink};
 
     /// As its sink does.
     fn write(&mut self, piece: &[u8]) -> Result<usize, Failed>
         ensures writes { Writes (host_seen self.old) (host_seen self.new) piece.now result }
         ensures whole { IfOk result (λ count. count ≡ length piece.now) }
-        ensures tells { IfOk result (λ _. IfSome (sink_taken (host_sink self.old)) (λ taken. IsSome (sink_taken (host_sink self.new)) ↔ (length taken + length piece.now ≤ sink_room (host_sink self.old)))) }
+        ensures tells { IfOk result (λ _. TellsWithin (host_sink self.old) (host_sink self.new) (length piece.now)) }
         ensures room { sink_room (host_sink self.new) ≡ sink_room (host_sink self.old) }
         ensures call { MakesCall (sink_writes (host_sink self.old)) (sink_writes (host_sink self.new)) (IsErr result) }
     {

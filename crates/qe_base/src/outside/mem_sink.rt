@@ -74,13 +74,13 @@ impl Outer for MemSink {
 impl Sink for MemSink {
     ghost use Rattle.qe_base.specs.Outside.{Writes};
     ghost use Rattle.qe_base.specs.Calls.{MakesCall};
-    ghost use Rattle.qe_base.specs.MemSink.{KeepsOn, sink_taken, sink_room, sink_writes, sink_seen};
+    ghost use Rattle.qe_base.specs.MemSink.{KeepsOn, TellsWithin, sink_room, sink_writes, sink_seen};
 
     /// Takes the whole piece. One that goes past the room isn't kept, and no later one.
     fn write(&mut self, piece: &[u8]) -> Result<usize, Failed>
         ensures writes { Writes (sink_seen self.old) (sink_seen self.new) piece.now result }
         ensures whole { IfOk result (λ count. count ≡ length piece.now) }
-        ensures tells { IfOk result (λ _. IfSome (sink_taken self.old) (λ taken. IsSome (sink_taken self.new) ↔ (length taken + length piece.now ≤ sink_room self.old))) }
+        ensures tells { IfOk result (λ _. TellsWithin self.old self.new (length piece.now)) }
         ensures room { sink_room self.new ≡ sink_room self.old }
         ensures call { MakesCall (sink_writes self.old) (sink_writes self.new) (IsErr result) }
         ensures keeps { KeepsOn self.old self.new piece.now }

@@ -7,4 +7,4 @@ use Rattle.qe_ops.proofs.fill.fill.Given as goal
 -- the columns filled so far, and those that are left
 abbrev pub invariant-loop-number : goal.invariant-loop-number
 invariant-loop-number l =
-    l.filled ++ map (λ numbered. unwrap_or (given_for numbered.0 l.values) Null) (enumerate_from l.number (drop l.number l.columns)) ≡ map (λ numbered. unwrap_or (given_for numbered.0 l.values) Null) (enumerate_from 0 l.columns)
+    l.filled.items ++ map (λ numbered. unwrap_or (given_for numbered.0 l.values) Null) (enumerate_from l.number (drop l.number l.columns)) ≡ map (λ numbered. unwrap_or (given_for numbered.0 l.values) Null) (enumerate_from 0 l.columns)
